@@ -1,0 +1,3 @@
+-- What the contracts of bit_rows cite.
+pub mod Sequences
+pub mod Bits
