@@ -1,0 +1,39 @@
+-- Plain list functions. Document 01, "The shelf": the entries of a range; the rest is common ground.
+use Prim.Native.Nat.{ℕ, _-_, _<_}
+use mathlib.Core.List.{List, [], _∷_, _++_}
+use mathlib.Core.Bool.{Bool, false, cond, _||_}
+use lib.ListN.{length, take, drop}
+use lib.Dec.{leb}
+
+module _ {A : Type 0} where
+  -- the elements that pass a test, in their order
+  abbrev pub keep : (A → Bool) → List A → List A
+  keep p [] = []
+  keep p (x ∷ xs) = cond (p x) (x ∷ keep p xs) (keep p xs)
+
+  -- whether some element passes a test
+  abbrev pub any : (A → Bool) → List A → Bool
+  any p [] = false
+  any p (x ∷ xs) = p x || any p xs
+
+  -- a slice whose front is written and whose rest is untouched
+  abbrev pub overwrite : List A → List A → List A
+  overwrite new old = new ++ drop (length new) old
+
+-- the entries a up to but without b
+abbrev pub part : ℕ → ℕ → List ℕ → List ℕ
+part a b xs = take (b - a) (drop a xs)
+
+-- ascending order
+abbrev pub insertNumber : ℕ → List ℕ → List ℕ
+insertNumber v [] = v ∷ []
+insertNumber v (x ∷ xs) = cond (leb v x) (v ∷ x ∷ xs) (x ∷ insertNumber v xs)
+
+abbrev pub sorted : List ℕ → List ℕ
+sorted [] = []
+sorted (x ∷ xs) = insertNumber x (sorted xs)
+
+-- every number is below n
+abbrev pub Within : ℕ → List ℕ → Type 0
+Within n [] = Unit {0}
+Within n (x ∷ xs) = (x < n) × Within n xs

@@ -1,0 +1,150 @@
+-- The questions over the plain list, each with its whole result. Document 01, "The questions" and their refusals 10 to 12.
+use Prim.Native.Nat.{ℕ, suc, _*_, _/_}
+use mathlib.Core.List.{List, [], _∷_, map}
+use mathlib.Core.Bool.{Bool, cond, _||_}
+use lib.ListN.{length, getD, take}
+use lib.Dec.{leb, ltb, eqb}
+use Rattle.bit_rows.specs.Sequences.{all, below, occurrences, rank, select}
+use Rattle.bit_rows.specs.Bits.{sum}
+use Rattle.model.specs.Lists.{keep, any, part, sorted, overwrite}
+use Rattle.model.specs.Outcome.{Outcome, answered, refused, refuse, andThen}
+use Rattle.model.specs.Format.{Library}
+use Rattle.model.specs.Opening.{opened}
+
+-- ---- one entry
+
+-- entry at a place
+abbrev pub accessResult : List ℕ → ℕ → Outcome ℕ
+accessResult bytes p = andThen (opened bytes) (λ lib. refuse 11 (leb (length (lib .entries)) p) (answered (getD (lib .entries) p 0)))
+
+-- count of a document before a place p; p may be n
+abbrev pub rankResult : List ℕ → ℕ → ℕ → Outcome ℕ
+rankResult bytes d p =
+    andThen (opened bytes)
+    (λ lib. refuse 11 (leb (lib .documents) d || ltb (length (lib .entries)) p) (answered (rank d (lib .entries) p)))
+
+-- a place, or 'none'
+pub data Place : Type 0 where
+  place : ℕ → Place
+  none : Place
+
+abbrev pub placeBelow : ℕ → ℕ → Place
+placeBelow n p = cond (ltb p n) (place p) none
+
+-- place of the j-th entry of a document, j from 1
+abbrev pub selectResult : List ℕ → ℕ → ℕ → Outcome Place
+selectResult bytes d j =
+    andThen (opened bytes)
+    (λ lib. refuse 11 (leb (lib .documents) d || eqb j 0) (answered (placeBelow (length (lib .entries)) (select d (lib .entries) j))))
+
+-- ---- ranges
+
+-- a range in either form: entries a up to but without b, or terms f to l, both included
+pub data Range : Type 0 where
+  ofEntries : ℕ → ℕ → Range
+  ofTerms : ℕ → ℕ → Range
+
+-- the two ends of a range, in entries
+pub record Bounds : Type 0 where
+  pub from : ℕ
+  pub to : ℕ
+
+-- where term t starts: where the one before it ends
+abbrev pub termStart : Library → ℕ → ℕ
+termStart lib t = sum (take t (lib .lengths))
+
+abbrev pub boundsOf : Library → Range → Outcome Bounds
+boundsOf lib (ofEntries a b) = refuse 11 (ltb b a || ltb (length (lib .entries)) b) (answered (record { from = a; to = b }))
+boundsOf lib (ofTerms f l) =
+    refuse 11 (ltb l f || leb (length (lib .lengths)) f || leb (length (lib .lengths)) l)
+    (answered (record { from = termStart lib f; to = termStart lib (suc l) }))
+
+-- the entries of a range
+abbrev pub inRange : Library → Range → Outcome (List ℕ)
+inRange lib range = andThen (boundsOf lib range) (λ r. answered (part (r .from) (r .to) (lib .entries)))
+
+-- the range of terms f to l, or of entries a to b, as entries
+abbrev pub rangeResult : List ℕ → Range → Outcome Bounds
+rangeResult bytes range = andThen (opened bytes) (λ lib. boundsOf lib range)
+
+-- ---- quantile: the document of rank r in a range
+
+-- the element at r if the range were sorted
+abbrev pub quantile : ℕ → List ℕ → ℕ
+quantile r xs = getD (sorted xs) r 0
+
+abbrev pub quantileResult : List ℕ → Range → ℕ → Outcome ℕ
+quantileResult bytes range r =
+    andThen (opened bytes) (λ lib. andThen (inRange lib range) (λ xs. refuse 11 (leb (length xs) r) (answered (quantile r xs))))
+
+-- ---- answers as pairs
+
+-- a document with a count
+pub record Pair : Type 0 where
+  pub document : ℕ
+  pub count : ℕ
+
+-- pairs as they go into a slice
+abbrev pub flat : List Pair → List ℕ
+flat [] = []
+flat (p ∷ ps) = p .document ∷ p .count ∷ flat ps
+
+-- how many pairs, and the final content of the answer slice
+pub record PairsResult : Type 0 where
+  pub outcome : Outcome ℕ
+  pub answers : List ℕ
+
+abbrev pub pairsInto : List ℕ → Outcome (List Pair) → PairsResult
+pairsInto answers (answered ps) = record { outcome = answered (length ps); answers = overwrite (flat ps) answers }
+pairsInto answers (refused number) = record { outcome = refused number; answers = answers }
+
+-- ---- list: every document in the range once, ascending, with its count
+
+-- a document's count in a range: the entries there that equal it
+abbrev pub pairOf : List ℕ → ℕ → Pair
+pairOf xs d = record { document = d; count = occurrences d xs }
+
+-- the range's documents are those whose count is above 0
+abbrev pub present : Pair → Bool
+present p = ltb 0 (p .count)
+
+abbrev pub listing : ℕ → List ℕ → List Pair
+listing N xs = keep present (map (pairOf xs) (below N))
+
+abbrev pub listResult : List ℕ → Range → List ℕ → PairsResult
+listResult bytes range answers =
+    pairsInto answers
+    (andThen (opened bytes)
+    (λ lib. andThen (inRange lib range) (λ xs. refuse 12 (ltb (length answers) (2 * lib .documents)) (answered (listing (lib .documents) xs)))))
+
+-- ---- conjunction: the documents with an entry under each of the terms, ascending, with the sum of their counts
+
+-- the entries under a term
+abbrev pub under : Library → ℕ → List ℕ
+under lib t = part (termStart lib t) (termStart lib (suc t)) (lib .entries)
+
+-- one count for each of the terms as given: a term given twice is counted twice
+abbrev pub countsUnder : Library → List ℕ → ℕ → List ℕ
+countsUnder lib terms d = map (λ t. occurrences d (under lib t)) terms
+
+abbrev pub conjunction : Library → List ℕ → List Pair
+conjunction lib terms =
+    map (λ d. record { document = d; count = sum (countsUnder lib terms d) })
+    (keep (λ d. all (ltb 0) (countsUnder lib terms d)) (below (lib .documents)))
+
+-- the question holds so many of the given numbers, one to eight
+abbrev pub conjunctionResult : List ℕ → List ℕ → ℕ → List ℕ → PairsResult
+conjunctionResult bytes numbers size answers =
+    let terms = take size numbers in
+    pairsInto answers
+    (andThen (opened bytes)
+    (λ lib.
+    refuse 10 (eqb size 0 || ltb 8 size)
+    (refuse 11 (any (leb (length (lib .lengths))) terms)
+    (refuse 12 (ltb (length answers) (2 * lib .documents)) (answered (conjunction lib terms))))))
+
+-- ---- per mille: the rate
+
+-- count * 1,000 / size of range, rounded down
+abbrev pub perMilleResult : ℕ → ℕ → Outcome ℕ
+perMilleResult count size = refuse 11 (eqb size 0 || ltb size count) (answered (count * 1000 / size))

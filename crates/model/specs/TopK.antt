@@ -1,0 +1,150 @@
+-- The full list, its need and the covered front part; the results of both searches. Document 01, "Bit rows" and the shortlists.
+use Prim.Native.Nat.{ℕ, zero, suc, _+_, _-_, _*_, _/_, _^_, min}
+use mathlib.Core.List.{List, [], _∷_, map}
+use mathlib.Core.Bool.{Bool, cond, _&&_, _||_}
+use lib.ListN.{length, take, replicate}
+use lib.Dec.{leb, ltb, eqb}
+use Rattle.bit_rows.specs.Sequences.{tally, below}
+use Rattle.bit_rows.specs.Bits.{concat}
+use Rattle.model.specs.Lists.{overwrite}
+use Rattle.model.specs.Outcome.{Outcome, answered, refused, refuse, andThen}
+use Rattle.model.specs.Rows.{height}
+use Rattle.model.specs.Format.{Library}
+use Rattle.model.specs.Opening.{opened}
+use Rattle.model.specs.Queries.{Range, inRange, Pair, flat, listing}
+
+-- ---- nodes (blocks)
+
+-- node l q: the 2 ^ l numbers v with v / 2 ^ l equal to q. Its depth is h - l; a node of height 0 is one number
+pub data Node : Type 0 where
+  node : ℕ → ℕ → Node
+
+-- the lowest of its numbers
+abbrev pub start : Node → ℕ
+start (node l q) = q * 2 ^ l
+
+-- the number of entries in it
+abbrev pub countIn : List ℕ → Node → ℕ
+countIn xs (node l q) = tally (λ v. eqb (v / 2 ^ l) q) xs
+
+-- the nodes of two or more numbers: of depth j below h there are 2 ^ j
+abbrev pub innerNodes : ℕ → List Node
+innerNodes h = concat (map (λ j. map (node (h - j)) (below (2 ^ j))) (below h))
+
+-- ---- the full list: by larger count and then lower number
+
+abbrev pub ahead : Pair → Pair → Bool
+ahead p q = ltb (q .count) (p .count) || eqb (q .count) (p .count) && ltb (p .document) (q .document)
+
+abbrev pub insertPair : Pair → List Pair → List Pair
+insertPair p [] = p ∷ []
+insertPair p (q ∷ qs) = cond (ahead p q) (p ∷ q ∷ qs) (q ∷ insertPair p qs)
+
+abbrev pub ranking : List Pair → List Pair
+ranking [] = []
+ranking (p ∷ ps) = insertPair p (ranking ps)
+
+-- the first k of the range's documents, or all if there are fewer
+abbrev pub fullList : ℕ → ℕ → List ℕ → List Pair
+fullList N k xs = take k (ranking (listing N xs))
+
+-- ---- the need
+
+-- the node's count is above that of the pair, or equal to it with a start not above the pair's document
+abbrev pub needed : List ℕ → Pair → Node → Bool
+needed xs p n =
+    ltb (p .count) (countIn xs n) || eqb (countIn xs n) (p .count) && leb (start n) (p .document)
+
+-- the number of such nodes of two or more numbers
+abbrev pub needOf : ℕ → List ℕ → Pair → ℕ
+needOf h xs p = tally (needed xs p) (innerNodes h)
+
+abbrev pub last : Pair → List Pair → Pair
+last p [] = p
+last p (q ∷ qs) = last q qs
+
+-- the need of a front part, by its last pair; without pairs it is 0
+abbrev pub need : ℕ → List ℕ → List Pair → ℕ
+need h xs [] = 0
+need h xs (p ∷ ps) = needOf h xs (last p ps)
+
+-- the longest front part, of at most m pairs, whose need the allowance covers
+abbrev pub covered : ℕ → List ℕ → ℕ → List Pair → ℕ → List Pair
+covered h xs allowance ps zero = []
+covered h xs allowance ps (suc m) =
+    let shorter = covered h xs allowance ps m in
+    cond (leb (need h xs (take (suc m) ps)) allowance) (take (suc m) ps) shorter
+
+-- ---- top-k (shortlist)
+
+-- 'done' with the openings needed, or 'spent' with the allowance; each with the documents listed
+pub data Answer : Type 0 where
+  done : List Pair → ℕ → Answer
+  spent : List Pair → ℕ → Answer
+
+abbrev pub topK : ℕ → ℕ → List ℕ → ℕ → ℕ → Answer
+topK h N xs k allowance =
+    let full = fullList N k xs in
+    let cost = need h xs full in
+    cond (leb cost allowance) (done full cost) (spent (covered h xs allowance full (length full)) allowance)
+
+-- ---- results
+
+-- how a search ended: so many pairs listed, with the openings needed or with the allowance
+pub data Ended : Type 0 where
+  doneWith : ℕ → ℕ → Ended
+  spentWith : ℕ → ℕ → Ended
+
+abbrev pub endedOf : Answer → Ended
+endedOf (done ps openings) = doneWith (length ps) openings
+endedOf (spent ps allowance) = spentWith (length ps) allowance
+
+abbrev pub pairsOf : Answer → List Pair
+pairsOf (done ps openings) = ps
+pairsOf (spent ps allowance) = ps
+
+-- what a search of a library with N documents finds, with what it answers
+pub record Found (A : Type 0) : Type 0 where
+  pub documents : ℕ
+  pub pairs : List Pair
+  pub answer : A
+
+-- the answer, and the final content of the answer slice and of the work slice
+pub record SearchResult (A : Type 0) : Type 0 where
+  pub outcome : Outcome A
+  pub answers : List ℕ
+  pub work : List ℕ
+
+-- the pairs go into the answer slice; the first 4 * N numbers of the work slice are 0, and the rest of both is untouched
+abbrev pub foundInto : {A : Type 0} → List ℕ → List ℕ → Outcome (Found A) → SearchResult A
+foundInto answers work (answered f) = record {
+  outcome = answered (f .answer);
+  answers = overwrite (flat (f .pairs)) answers;
+  work = overwrite (replicate (4 * f .documents) 0) work;
+}
+foundInto answers work (refused number) = record { outcome = refused number; answers = answers; work = work }
+
+-- both searches refuse alike, and then search the entries of the range
+abbrev pub searchResult : {A : Type 0} → List ℕ → Range → ℕ → List ℕ → List ℕ → (ℕ → List ℕ → Found A) → SearchResult A
+searchResult bytes range k answers work search =
+    foundInto answers work
+    (andThen (opened bytes)
+    (λ lib.
+    andThen (inRange lib range)
+    (λ xs.
+    refuse 12 (ltb (length answers) (2 * min k (lib .documents)))
+    (refuse 13 (ltb (length work) (4 * lib .documents)) (answered (search (lib .documents) xs))))))
+
+-- greedy top-k (shortlist)
+abbrev pub greedyResult : List ℕ → Range → ℕ → ℕ → List ℕ → List ℕ → SearchResult Ended
+greedyResult bytes range k allowance answers work =
+    searchResult bytes range k answers work
+    (λ N xs.
+    let answer = topK (height N) N xs k allowance in
+    record { documents = N; pairs = pairsOf answer; answer = endedOf answer })
+
+-- probing top-k (probing shortlist): the full list, no allowance; it answers how many pairs
+abbrev pub probingResult : List ℕ → Range → ℕ → List ℕ → List ℕ → SearchResult ℕ
+probingResult bytes range k answers work =
+    searchResult bytes range k answers work
+    (λ N xs. let full = fullList N k xs in record { documents = N; pairs = full; answer = length full })
