@@ -1,1 +1,3 @@
--- Laws.
+-- Laws of the definitions, for callers.
+pub mod Tests
+pub mod Tally

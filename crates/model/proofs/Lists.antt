@@ -1,0 +1,147 @@
+-- Laws of `keep`, `part`, `Within`, and of maps and joins of lists.
+use Prim.Native.Nat.{ℕ, zero, suc, _+_, _-_, _≤_, _<_, zero-le, suc-le-suc}
+use native.Mathlib.Omega.{arith}
+use native.Mathlib.Nat.{zero-add, le-of-suc-le-suc, not-suc-le-zero}
+use mathlib.Core.Path.{_≡_, refl, sym, ap, _∙_}
+use mathlib.Core.List.{List, [], _∷_, _++_, map, append-assoc}
+use mathlib.Core.Bool.{Bool, true, false, cond, _&&_}
+use lib.ListN.{length, getD, take, drop, length-append, length-drop, take-append-drop}
+use lib.Seq.{length-take-le, take-append-seam, split-at, getD-append-seam}
+use Rattle.bit_rows.specs.Sequences.{bit, tally}
+use Rattle.bit_rows.specs.Bits.{concat}
+use Rattle.bit_rows.proofs.Tally.{tally-append, tally-take-add}
+use Rattle.model.specs.Lists.{keep, part, Within}
+
+-- ---- maps and joins
+
+module _ {A B : Type 0} where
+  pub map-append : (f : A → B) (xs ys : List A) → map f (xs ++ ys) ≡ map f xs ++ map f ys
+  map-append f [] ys = refl
+  map-append f (x ∷ xs) ys = ap (λ (r : List B). f x ∷ r) (map-append f xs ys)
+
+  pub map-take : (f : A → B) (n : ℕ) (xs : List A) → take n (map f xs) ≡ map f (take n xs)
+  map-take f zero xs = refl
+  map-take f (suc n) [] = refl
+  map-take f (suc n) (x ∷ xs) = ap (λ (r : List B). f x ∷ r) (map-take f n xs)
+
+  -- inside the list whatever stands past its end
+  pub getD-map : (f : A → B) (l : List A) (n : ℕ) (d : A) (e : B) → n < length l → getD (map f l) n e ≡ f (getD l n d)
+  getD-map f [] n d e h = absurd (not-suc-le-zero h)
+  getD-map f (x ∷ xs) zero d e h = refl
+  getD-map f (x ∷ xs) (suc n) d e h = getD-map f xs n d e (le-of-suc-le-suc h)
+
+module _ {A : Type 0} where
+  pub concat-append : (xs ys : List (List A)) → concat (xs ++ ys) ≡ concat xs ++ concat ys
+  concat-append [] ys = refl
+  concat-append (x ∷ xs) ys = ap (λ (r : List A). x ++ r) (concat-append xs ys) ∙ sym (append-assoc x (concat xs) (concat ys))
+
+  -- ---- keep
+
+  pub keep-append : (p : A → Bool) (xs ys : List A) → keep p (xs ++ ys) ≡ keep p xs ++ keep p ys
+  keep-append p [] ys = refl
+  keep-append p (x ∷ xs) ys = go (p x) (keep-append p xs ys)
+    where
+      go : (b : Bool) → keep p (xs ++ ys) ≡ keep p xs ++ keep p ys
+          → cond b (x ∷ keep p (xs ++ ys)) (keep p (xs ++ ys)) ≡ cond b (x ∷ keep p xs) (keep p xs) ++ keep p ys
+      go true ih = ap (λ (r : List A). x ∷ r) ih
+      go false ih = ih
+
+  pub length-keep : (p : A → Bool) (xs : List A) → length (keep p xs) ≡ tally p xs
+  length-keep p [] = refl
+  length-keep p (x ∷ xs) = go (p x) (length-keep p xs)
+    where
+      go : (b : Bool) → length (keep p xs) ≡ tally p xs → length (cond b (x ∷ keep p xs) (keep p xs)) ≡ bit b + tally p xs
+      go true ih = omega arith
+      go false ih = omega arith
+
+  pub tally-keep : (p q : A → Bool) (xs : List A) → tally p (keep q xs) ≡ tally (λ x. q x && p x) xs
+  tally-keep p q [] = refl
+  tally-keep p q (x ∷ xs) = go (q x) (tally-keep p q xs)
+    where
+      go : (b : Bool) → tally p (keep q xs) ≡ tally (λ y. q y && p y) xs
+          → tally p (cond b (x ∷ keep q xs) (keep q xs)) ≡ bit (b && p x) + tally (λ y. q y && p y) xs
+      go true ih = omega arith
+      go false ih = omega arith
+
+  -- the first entries that pass, by counting them
+  pub keep-take : (p : A → Bool) (a : ℕ) (xs : List A) → take (tally p (take a xs)) (keep p xs) ≡ keep p (take a xs)
+  keep-take p a xs =
+      ap (λ (l : List A). take (tally p (take a xs)) l) (ap (keep p) (sym (take-append-drop a xs)) ∙ keep-append p (take a xs) (drop a xs))
+      ∙ ap (λ (n : ℕ). take n (keep p (take a xs) ++ keep p (drop a xs))) (sym (length-keep p (take a xs)))
+      ∙ take-append-seam (keep p (take a xs)) (keep p (drop a xs))
+
+  -- the entry i, if it passes, stands among those that pass after those before it
+  keep-split-at : (p : A → Bool) (xs : List A) (i : ℕ) (d : A) → i < length xs → p (getD xs i d) ≡ true
+      → keep p xs ≡ keep p (take i xs) ++ (getD xs i d ∷ keep p (drop (suc i) xs))
+  keep-split-at p xs i d h e =
+      ap (keep p) (split-at xs i d h) ∙ keep-append p (take i xs) (getD xs i d ∷ drop (suc i) xs)
+      ∙ ap (λ (b : Bool). keep p (take i xs) ++ cond b (getD xs i d ∷ keep p (drop (suc i) xs)) (keep p (drop (suc i) xs))) e
+
+  pub keep-at : (p : A → Bool) (xs : List A) (i : ℕ) (d : A) → i < length xs → p (getD xs i d) ≡ true
+      → getD (keep p xs) (tally p (take i xs)) d ≡ getD xs i d
+  keep-at p xs i d h e =
+      ap (λ (l : List A). getD l (tally p (take i xs)) d) (keep-split-at p xs i d h e)
+      ∙ ap (λ (n : ℕ). getD (keep p (take i xs) ++ (getD xs i d ∷ keep p (drop (suc i) xs))) n d) (sym (length-keep p (take i xs)))
+      ∙ getD-append-seam (keep p (take i xs)) (getD xs i d) (keep p (drop (suc i) xs)) d
+
+  pub tally-take-lt : (p : A → Bool) (xs : List A) (i : ℕ) (d : A) → i < length xs → p (getD xs i d) ≡ true → tally p (take i xs) < tally p xs
+  tally-take-lt p xs i d h e =
+      omega (
+        arith,
+        ap length (keep-split-at p xs i d h e),
+        length-append (keep p (take i xs)) (getD xs i d ∷ keep p (drop (suc i) xs)),
+        length-keep p xs,
+        length-keep p (take i xs),
+      )
+
+-- ---- part
+
+-- a part, as the difference of two front parts
+pub tally-part : (p : ℕ → Bool) (a b : ℕ) (xs : List ℕ) → a ≤ b → tally p (take b xs) ≡ tally p (take a xs) + tally p (part a b xs)
+tally-part p a b xs h =
+    let e : a + (b - a) ≡ b = omega arith in
+    ap (λ (n : ℕ). tally p (take n xs)) (sym e) ∙ tally-take-add p a (b - a) xs
+
+pub length-part : (a b : ℕ) (xs : List ℕ) → b ≤ length xs → length (part a b xs) ≡ b - a
+length-part a b xs l = length-take-le (b - a) (drop a xs) (rw length-drop (omega arith))
+
+-- ---- Within
+
+pub within-take : (n a : ℕ) (xs : List ℕ) → Within n xs → Within n (take a xs)
+within-take n zero xs w = tt
+within-take n (suc a) [] w = tt
+within-take n (suc a) (x ∷ xs) w = (w .0, within-take n a xs (w .1))
+
+pub within-drop : (n a : ℕ) (xs : List ℕ) → Within n xs → Within n (drop a xs)
+within-drop n zero xs w = w
+within-drop n (suc a) [] w = tt
+within-drop n (suc a) (x ∷ xs) w = within-drop n a xs (w .1)
+
+pub within-part : (n a b : ℕ) (xs : List ℕ) → Within n xs → Within n (part a b xs)
+within-part n a b xs w = within-take n (b - a) (drop a xs) (within-drop n a xs w)
+
+pub within-append : (n : ℕ) (xs ys : List ℕ) → Within n xs → Within n ys → Within n (xs ++ ys)
+within-append n [] ys w v = v
+within-append n (x ∷ xs) ys w v = (w .0, within-append n xs ys (w .1) v)
+
+pub within-at : (n : ℕ) (xs : List ℕ) (i : ℕ) → Within n xs → i < length xs → getD xs i 0 < n
+within-at n [] i w h = absurd (not-suc-le-zero h)
+within-at n (x ∷ xs) zero w h = w .0
+within-at n (x ∷ xs) (suc i) w h = within-at n xs i (w .1) (le-of-suc-le-suc h)
+
+pub within-of : (n : ℕ) (xs : List ℕ) → ((i : ℕ) → i < length xs → getD xs i 0 < n) → Within n xs
+within-of n [] f = tt
+within-of n (x ∷ xs) f = (f 0 (suc-le-suc zero-le), within-of n xs (λ i h. f (suc i) (suc-le-suc h)))
+
+pub within-le : (m n : ℕ) → m ≤ n → (xs : List ℕ) → Within m xs → Within n xs
+within-le m n h [] w = tt
+within-le m n h (x ∷ xs) w = (let l = w .0 in omega arith, within-le m n h xs (w .1))
+
+-- where all numbers below n pass
+pub tally-within : (p : ℕ → Bool) (n : ℕ) → ((x : ℕ) → x < n → p x ≡ true) → (xs : List ℕ) → Within n xs → tally p xs ≡ length xs
+tally-within p n h [] w = refl
+tally-within p n h (x ∷ xs) w = omega (arith, ap bit (h x (w .0)), tally-within p n h xs (w .1))
+
+pub keep-within : (p : ℕ → Bool) (n : ℕ) → ((x : ℕ) → x < n → p x ≡ true) → (xs : List ℕ) → Within n xs → keep p xs ≡ xs
+keep-within p n h [] w = refl
+keep-within p n h (x ∷ xs) w = rw (h x (w .0)) (ap (λ (r : List ℕ). x ∷ r) (keep-within p n h xs (w .1)))
