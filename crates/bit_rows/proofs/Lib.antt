@@ -1,3 +1,6 @@
 -- Laws of the definitions, for callers.
 pub mod Tests
 pub mod Tally
+pub mod Pack
+pub mod Chunks
+pub mod Numbers

@@ -94,3 +94,12 @@ all-upFrom-at p s (suc n) e i a b = go (and-both (p s) (all p (upFrom (suc s) n)
         → (all p (upFrom (suc s) n) ≡ true → (i : ℕ) → suc s ≤ i → i < suc s + n → p i ≡ true) → Dec (s ≡ i) → p i ≡ true
     go t ih (yes q) = subst (λ (j : ℕ). p j ≡ true) q (t .0)
     go t ih (no q) = ih (t .1) i (omega arith) (omega arith)
+
+-- what a rule yields at the numbers below n
+pub getD-map-below : {A : Type 0} (f : ℕ → A) (n i : ℕ) (d : A) → i < n → getD (map f (below n)) i d ≡ f i
+getD-map-below {A} f n i d l = go 0 n i l ∙ ap f (zero-add i)
+  where
+    go : (s n i : ℕ) → i < n → getD (map f (upFrom s n)) i d ≡ f (s + i)
+    go s zero i l = absurd (not-suc-le-zero l)
+    go s (suc n) zero l = ap f (sym (add-zero s))
+    go s (suc n) (suc i) l = go (suc s) n i (le-of-suc-le-suc l) ∙ ap f (omega arith)
