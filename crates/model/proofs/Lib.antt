@@ -1,2 +1,4 @@
 -- Laws of the definitions.
 pub mod Lists
+pub mod Height
+pub mod Wavelet
