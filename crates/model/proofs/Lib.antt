@@ -2,3 +2,4 @@
 pub mod Lists
 pub mod Height
 pub mod Wavelet
+pub mod Format
