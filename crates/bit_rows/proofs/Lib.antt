@@ -1,6 +1,11 @@
--- Laws of the definitions, for callers.
+-- Laws of rows of bits, for this crate's proofs and for callers.
 pub mod Tests
 pub mod Tally
-pub mod Pack
+pub mod Sequences
 pub mod Chunks
+pub mod Bits
+pub mod Pack
 pub mod Numbers
+pub mod Samples
+pub mod Stores
+pub mod Search

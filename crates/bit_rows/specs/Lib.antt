@@ -1,3 +1,4 @@
 -- What the contracts of bit_rows cite.
 pub mod Sequences
 pub mod Bits
+pub mod Rows

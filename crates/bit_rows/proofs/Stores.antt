@@ -1,0 +1,205 @@
+-- Laws of what is written: a number of 32 bits, a bit of a row, and a row's unused bits.
+use mathlib.Core.Path.{_≡_, refl, sym, ap, _∙_}
+use mathlib.Core.Logic.{_≢_, _⊎_, inl, inr}
+use mathlib.Core.Bool.{Bool, true, false}
+use mathlib.Core.List.{List, _++_, append-assoc}
+use Prim.Native.Nat.{ℕ, zero, suc, _+_, _-_, _*_, _/_, _%_, _^_, _≤_, _<_}
+use native.Mathlib.Nat.{add-zero, pow-suc, div-div-eq-div-mul, add-div-right, add-mul-div-right, div-lt-iff-lt-mul, zero-div}
+use native.Mathlib.Decide.{ℕ-discrete}
+use native.Mathlib.Numerals.{one-add, add-one, add-two, add-three}
+use native.Mathlib.Omega.{arith}
+use lib.Dec.{eqb}
+use lib.ListN.{length, getD, set, take, drop, length-set, length-append, length-drop, List·getD-append}
+use lib.Pow.{pow-pos, pow-add, shr-shr, shr-lt}
+use lib.Seq.{sets-eq, length-take-le, getD-append-add, getD-take, getD-drop, getD-set-same, getD-set-other, ext-getD}
+use borrow.Author.Tests.{eqb-true, eqb-false, eq-eqb}
+use Rattle.bit_rows.specs.Bits.{bitAt, bitsOf, rowBytes, littleEndian, numberAt, unusedClear}
+use Rattle.bit_rows.specs.Rows.{withBit, withNumber}
+use Rattle.bit_rows.proofs.Bits.{length-bitsOf, getD-bitsOf}
+use Rattle.bit_rows.proofs.Sequences.{le-or-lt, all-upFrom, all-upFrom-at}
+
+-- ---- numbers of 32 bits
+
+-- a number below 2 ^ 32 is its four bytes
+four-bytes : (x a b c : ℕ) → a ≡ x / 256 → b ≡ a / 256 → c ≡ b / 256 → x < 2 ^ 32
+    → x % 256 + 256 * (a % 256) + 65536 * (b % 256) + 16777216 * (c % 256) ≡ x
+four-bytes x a b c p q r l =
+    let h1 : 256 * a + x % 256 ≡ x = omega arith in
+    let h2 : 256 * b + a % 256 ≡ a = omega arith in
+    let h3 : 256 * c + b % 256 ≡ b = omega arith in
+    let h4 : c % 256 ≡ c = omega arith in
+    omega (arith, h1, h2, h3, h4)
+
+module _ (bytes : List ℕ) (k x : ℕ) (fits : k + 4 ≤ length bytes) where
+  -- four stores, one a byte
+  pub stores-number : set (set (set (set bytes k (x % 256)) (k + 1) (x / 256 % 256)) (k + 2) (x / 65536 % 256)) (k + 3) (x / 16777216 % 256)
+      ≡ withNumber bytes k x
+  stores-number = rw (add-one k, add-two k, add-three k) (sets-eq (littleEndian x) bytes k fits)
+
+  front : length (take k bytes) ≡ k
+  front = length-take-le k bytes (omega arith)
+
+  fore : length (take k bytes ++ littleEndian x) ≡ k + 4
+  fore = omega (arith, length-append (take k bytes) (littleEndian x), front)
+
+  pub length-withNumber : length (withNumber bytes k x) ≡ length bytes
+  length-withNumber =
+      omega (arith, length-append (take k bytes ++ littleEndian x) (drop (k + 4) bytes), fore, length-drop (k + 4) bytes)
+
+  -- what the four bytes hold
+  inside : (i : ℕ) → getD (withNumber bytes k x) (k + i) 0 ≡ getD (littleEndian x ++ drop (k + 4) bytes) i 0
+  inside i =
+      rw (append-assoc (take k bytes) (littleEndian x) (drop (k + 4) bytes))
+      (rw front at (getD-append-add (take k bytes) (littleEndian x ++ drop (k + 4) bytes) i 0))
+
+  pub getD-withNumber-lt : (i : ℕ) → i < k → getD (withNumber bytes k x) i 0 ≡ getD bytes i 0
+  getD-withNumber-lt i h =
+      let f = front in
+      let g = fore in
+      List·getD-append (take k bytes ++ littleEndian x) (drop (k + 4) bytes) 0 i (omega arith)
+      ∙ List·getD-append (take k bytes) (littleEndian x) 0 i (omega arith)
+      ∙ getD-take k bytes i 0 h
+
+  pub getD-withNumber-ge : (i : ℕ) → k + 4 ≤ i → getD (withNumber bytes k x) i 0 ≡ getD bytes i 0
+  getD-withNumber-ge i h =
+      let e : k + 4 + (i - (k + 4)) ≡ i = omega arith in
+      let p = rw fore at (getD-append-add (take k bytes ++ littleEndian x) (drop (k + 4) bytes) (i - (k + 4)) 0) in
+      rw e at (p ∙ getD-drop (k + 4) bytes (i - (k + 4)) 0)
+
+  pub numberAt-withNumber : x < 2 ^ 32 → numberAt (withNumber bytes k x) k ≡ x
+  numberAt-withNumber l =
+      let f = four-bytes x (x / 256) (x / 65536) (x / 16777216) refl (sym (div-div-eq-div-mul x 256 256)) (sym (div-div-eq-div-mul x 65536 256)) l in
+      omega (arith, rw (add-zero k) at (inside 0), inside 1, inside 2, inside 3)
+
+  pub numberAt-withNumber-lt : (i : ℕ) → i + 4 ≤ k → numberAt (withNumber bytes k x) i ≡ numberAt bytes i
+  numberAt-withNumber-lt i h =
+      omega (
+        arith,
+        getD-withNumber-lt i (omega arith),
+        getD-withNumber-lt (i + 1) (omega arith),
+        getD-withNumber-lt (i + 2) (omega arith),
+        getD-withNumber-lt (i + 3) (omega arith),
+      )
+
+  pub numberAt-withNumber-ge : (i : ℕ) → k + 4 ≤ i → numberAt (withNumber bytes k x) i ≡ numberAt bytes i
+  numberAt-withNumber-ge i h =
+      omega (
+        arith,
+        getD-withNumber-ge i (omega arith),
+        getD-withNumber-ge (i + 1) (omega arith),
+        getD-withNumber-ge (i + 2) (omega arith),
+        getD-withNumber-ge (i + 3) (omega arith),
+      )
+
+-- ---- a bit that is set
+
+module _ (b r : ℕ) (clear : b / 2 ^ r % 2 ≡ 0) where
+  -- a byte with a bit more is a byte
+  pub byte-fits : b < 256 → r < 8 → b + 2 ^ r < 256
+  byte-fits h l =
+      let s : 8 - r + r ≡ 8 = omega arith in
+      let t : suc (7 - r) ≡ 8 - r = omega arith in
+      let q : b / 2 ^ r < 2 ^ (8 - r) = shr-lt (8 - r) r (rw s h) in
+      let e : 2 ^ (8 - r) ≡ 2 ^ (7 - r) * 2 = rw t at (pow-suc 2 (7 - r)) in
+      let u : (b + 2 ^ r) / 2 ^ r < 2 ^ (8 - r) = rw (add-div-right b (pow-pos r)) (omega arith) in
+      rw (← pow-add 2 (8 - r) r, s) at (div-lt-iff-lt-mul (pow-pos r) .0 u)
+
+  byte-same : (b + 2 ^ r) / 2 ^ r % 2 ≡ 1
+  byte-same = rw (add-div-right b (pow-pos r)) (omega arith)
+
+  byte-lower : (j m : ℕ) → j + suc m ≡ r → (b + 2 ^ r) / 2 ^ j % 2 ≡ b / 2 ^ j % 2
+  byte-lower j m e =
+      let p : 2 ^ r ≡ 2 ^ suc m * 2 ^ j = ap (λ (k : ℕ). 2 ^ k) (omega arith) ∙ pow-add 2 (suc m) j in
+      rw (p, add-mul-div-right b (2 ^ suc m) (pow-pos j)) (omega (arith, pow-suc 2 m))
+
+  byte-higher : (j m : ℕ) → r + suc m ≡ j → (b + 2 ^ r) / 2 ^ j % 2 ≡ b / 2 ^ j % 2
+  byte-higher j m e =
+      let p : r + (1 + m) ≡ j = omega arith in
+      let half : (b / 2 ^ r + 1) / 2 ≡ b / 2 ^ r / 2 = omega arith in
+      let up : (x : ℕ) → x / 2 ^ j ≡ x / 2 ^ r / 2 / 2 ^ m = λ x. sym (shr-shr (x / 2 ^ r) 1 m ∙ rw p at (shr-shr x r (1 + m))) in
+      rw (up (b + 2 ^ r), up b, add-div-right b (pow-pos r), half)
+
+  byte-other : (j : ℕ) → j ≢ r → (b + 2 ^ r) / 2 ^ j % 2 ≡ b / 2 ^ j % 2
+  byte-other j ne = go (le-or-lt j r)
+    where
+      go : (j ≤ r) ⊎ (r < j) → (b + 2 ^ r) / 2 ^ j % 2 ≡ b / 2 ^ j % 2
+      go (inl h) = byte-lower j (r - j - 1) (omega arith)
+      go (inr h) = byte-higher j (j - r - 1) (omega arith)
+
+module _ (row : List ℕ) (i : ℕ) (within : i < 8 * length row) (clear : bitAt row i ≡ 0) where
+  pub bitAt-withBit : bitAt (withBit row i) i ≡ 1
+  bitAt-withBit =
+      rw (getD-set-same row (i / 8) (getD row (i / 8) 0 + 2 ^ (i % 8)) 0 (omega arith)) (byte-same (getD row (i / 8) 0) (i % 8) clear)
+
+  pub bitAt-withBit-other : (k : ℕ) → k ≢ i → bitAt (withBit row i) k ≡ bitAt row k
+  bitAt-withBit-other k ne = go (ℕ-discrete (k / 8) (i / 8))
+    where
+      go : Dec (k / 8 ≡ i / 8) → bitAt (withBit row i) k ≡ bitAt row k
+      go (yes e) =
+          let d : k % 8 ≢ i % 8 = omega arith in
+          rw (e, getD-set-same row (i / 8) (getD row (i / 8) 0 + 2 ^ (i % 8)) 0 (omega arith)) (byte-other (getD row (i / 8) 0) (i % 8) clear (k % 8) d)
+      go (no d) = rw (getD-set-other row (i / 8) (k / 8) (getD row (i / 8) 0 + 2 ^ (i % 8)) 0 d)
+
+  pub bitsOf-withBit : (n : ℕ) → bitsOf n (withBit row i) ≡ set (bitsOf n row) i 1
+  bitsOf-withBit n =
+      ext-getD 0 (bitsOf n (withBit row i)) (set (bitsOf n row) i 1)
+      (length-bitsOf n (withBit row i) ∙ sym (length-set (bitsOf n row) i 1 ∙ length-bitsOf n row))
+      (λ k h. at-place k (rw (length-bitsOf n (withBit row i)) at h) (ℕ-discrete k i))
+    where
+      at-place : (k : ℕ) → k < n → Dec (k ≡ i) → getD (bitsOf n (withBit row i)) k 0 ≡ getD (set (bitsOf n row) i 1) k 0
+      at-place k h (yes e) =
+          let l : i < length (bitsOf n row) = rw (length-bitsOf n row, ← e) h in
+          getD-bitsOf n (withBit row i) k h ∙ rw e (bitAt-withBit ∙ sym (getD-set-same (bitsOf n row) i 1 0 l))
+      at-place k h (no d) =
+          getD-bitsOf n (withBit row i) k h ∙ bitAt-withBit-other k d ∙ sym (getD-set-other (bitsOf n row) i k 1 0 d ∙ getD-bitsOf n row k h)
+
+pub length-withBit : (row : List ℕ) (i : ℕ) → length (withBit row i) ≡ length row
+length-withBit row i = length-set row (i / 8) (getD row (i / 8) 0 + 2 ^ (i % 8))
+
+-- ---- unused bits
+
+-- a number whose bits are all 0 is 0
+zero-bits : (m x : ℕ) → x < 2 ^ m → ((j : ℕ) → j < m → x / 2 ^ j % 2 ≡ 0) → x ≡ 0
+zero-bits zero x h bits = omega arith
+zero-bits (suc m) x h bits =
+    let e = pow-suc 2 m in
+    let rest : (j : ℕ) → j < m → x / 2 / 2 ^ j % 2 ≡ 0 = λ j l. rw (one-add j) at (ap (λ (y : ℕ). y % 2) (shr-shr x 1 j)) ∙ bits (suc j) (omega arith) in
+    omega (arith, zero-bits m (x / 2) (omega arith) rest, bits 0 (omega arith))
+
+pub unused-none : (n : ℕ) (row : List ℕ) → n % 8 ≡ 0 → unusedClear n row ≡ true
+unfolding unusedClear
+unused-none n row e =
+    let z : 8 * rowBytes n - n ≡ 0 = omega arith in
+    rw z
+
+pub unused-byte : (n : ℕ) (row : List ℕ) → (n % 8 ≡ 0 → ⊥) → getD row (n / 8) 0 < 256
+    → unusedClear n row ≡ eqb (getD row (n / 8) 0 / 2 ^ (n % 8)) 0
+unfolding unusedClear
+unused-byte n row ne h = go (eqb x 0) refl
+  where
+    x : ℕ
+    x = getD row (n / 8) 0 / 2 ^ (n % 8)
+
+    -- bit j of what is shifted out is an unused bit of the row
+    bit-of : (i j : ℕ) → n + j ≡ i → n % 8 + j < 8 → bitAt row i ≡ x / 2 ^ j % 2
+    bit-of i j e l =
+        let p : i / 8 ≡ n / 8 = omega arith in
+        let q : i % 8 ≡ n % 8 + j = omega arith in
+        rw (p, q, ← shr-shr (getD row (n / 8) 0) (n % 8) j)
+
+    clear : Bool
+    clear = unusedClear n row
+
+    ends : (t : Bool) → clear ≡ t → (x ≡ 0 → ⊥) → t ≡ false
+    ends true e d =
+        let s : 8 - n % 8 + n % 8 ≡ 8 = omega arith in
+        absurd (d (zero-bits (8 - n % 8) x (shr-lt (8 - n % 8) (n % 8) (rw s h)) (λ j l.
+        sym (bit-of (n + j) j refl (omega arith))
+        ∙ eqb-true (bitAt row (n + j)) 0 (all-upFrom-at (λ i. eqb (bitAt row i) 0) n (8 * rowBytes n - n) e (n + j) (omega arith) (omega arith)))))
+    ends false e d = refl
+
+    go : (t : Bool) → eqb x 0 ≡ t → clear ≡ t
+    go true e =
+        let z : x ≡ 0 = eqb-true x 0 e in
+        all-upFrom (λ i. eqb (bitAt row i) 0) n (8 * rowBytes n - n) (λ i l m. eq-eqb (bitAt row i) 0 (bit-of i (i - n) (omega arith) (omega arith) ∙ rw (z, zero-div)))
+    go false e = ends clear refl (eqb-false x 0 e)

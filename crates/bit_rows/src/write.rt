@@ -1,0 +1,34 @@
+// Writing a row: its bits one by one into zeros, then its samples.
+use crate::count::block_ones;
+use crate::numbers::put_number;
+ghost use mathlib.Core.Path.{_≡_};
+ghost use mathlib.Core.List.{_++_};
+ghost use Prim.Native.Nat.{_*_, _<_};
+ghost use lib.ListN.{length, drop};
+ghost use Rattle.bit_rows.specs.Bits.{bitAt, bitsOf, sampleCount, samplesOf};
+ghost use Rattle.bit_rows.specs.Rows.{withBit, Sized};
+
+// Sets bit i, which is 0; all other bits stay.
+pub fn set_bit(row: &mut [u8], i: usize)
+    requires { ⌜ (i < 8 * length (now row)) × (bitAt (now row) i ≡ 0) ⌝ }
+    ensures { λ r. ⌜ now (row .exit) ≡ withBit (now (row .entry)) i ⌝ }
+{
+    let k = i / 8;
+    let b = row[k];
+    row[k] = b + (1 << (i % 8));
+}
+
+// Writes the samples of the row; what lies behind them stays.
+pub fn fill_samples(samples: &mut [u8], row: &[u8], n: usize)
+    requires { ⌜ Sized n (now samples) (now row) ⌝ }
+    ensures { λ r. ⌜ now (samples .exit) ≡ samplesOf (bitsOf n (now (row .entry))) ++ drop (4 * sampleCount n) (now (samples .entry)) ⌝ }
+{
+    let m = (n + 511) / 512;
+    let mut count: usize = 0;
+    let mut t = 0;
+    while t < m {
+        put_number(samples, 4 * t, count);
+        count += block_ones(row, n, t);
+        t += 1;
+    }
+}
