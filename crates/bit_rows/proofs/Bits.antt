@@ -13,7 +13,9 @@ use lib.Pow.{pow-pos, mod-pow-add, mod-mod-pow, shl-exact}
 use Rattle.bit_rows.specs.Bits.{bitAt, bitsOf}
 use Rattle.bit_rows.specs.Rows.{countBelow, ofKind, wordAt}
 use Rattle.bit_rows.specs.Sequences.{bit, upFrom, below, occurrences, rank}
-use Rattle.bit_rows.proofs.Sequences.{le-or-lt, tally-append, map-append, length-upFrom, upFrom-snoc, rank-le, rank-mono}
+use Rattle.bit_rows.proofs.Tests.{le-or-lt}
+use Rattle.bit_rows.proofs.Tally.{tally-append, map-append, upFrom-snoc, length-upFrom, getD-map-below}
+use Rattle.bit_rows.proofs.Sequences.{rank-le, rank-mono}
 
 -- ---- the list of bits
 
@@ -37,14 +39,9 @@ pub take-bitsOf : (n : ℕ) (row : List ℕ) (i : ℕ) → i ≤ n → take i (b
 unfolding bitsOf
 take-bitsOf n row i h = take-map-upFrom (bitAt row) 0 n i h
 
-getD-map-upFrom : (f : ℕ → ℕ) (s n i : ℕ) → i < n → getD (map f (upFrom s n)) i 0 ≡ f (s + i)
-getD-map-upFrom f s zero i h = absurd (not-suc-le-zero h)
-getD-map-upFrom f s (suc n) zero h = ap f (omega arith)
-getD-map-upFrom f s (suc n) (suc i) h = getD-map-upFrom f (suc s) n i (le-of-suc-le-suc h) ∙ ap f (omega arith)
-
 pub getD-bitsOf : (n : ℕ) (row : List ℕ) (i : ℕ) → i < n → getD (bitsOf n row) i 0 ≡ bitAt row i
 unfolding bitsOf
-getD-bitsOf n row i h = getD-map-upFrom (bitAt row) 0 n i h ∙ ap (bitAt row) (zero-add i)
+getD-bitsOf n row i h = getD-map-below (bitAt row) n i 0 h
 
 pub bitAt-lt : (row : List ℕ) (i : ℕ) → bitAt row i < 2
 bitAt-lt row i = omega arith

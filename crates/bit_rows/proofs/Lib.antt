@@ -5,7 +5,7 @@ pub mod Sequences
 pub mod Chunks
 pub mod Bits
 pub mod Pack
-pub mod Numbers
+pub mod LittleEndian
 pub mod Samples
 pub mod Stores
 pub mod Search

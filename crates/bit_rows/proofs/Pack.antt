@@ -13,19 +13,7 @@ use borrow.Author.Tests.{eqb-true, eq-eqb}
 use Rattle.bit_rows.specs.Sequences.{below}
 use Rattle.bit_rows.specs.Bits.{bitAt, bitsOf, rowBytes, byteOf, pack, unusedClear}
 use Rattle.bit_rows.proofs.Tally.{length-upFrom, getD-map-below, all-upFrom, all-upFrom-at}
-
--- ---- bits of a row
-
-pub length-bitsOf : (n : ℕ) (row : List ℕ) → length (bitsOf n row) ≡ n
-unfolding bitsOf
-length-bitsOf n row = length-map (below n) (bitAt row) ∙ length-upFrom 0 n
-
-pub getD-bitsOf : (n : ℕ) (row : List ℕ) (i : ℕ) → i < n → getD (bitsOf n row) i 0 ≡ bitAt row i
-unfolding bitsOf
-getD-bitsOf n row i l = getD-map-below (bitAt row) n i 0 l
-
-pub bitAt-lt : (row : List ℕ) (i : ℕ) → bitAt row i < 2
-bitAt-lt row i = mod-lt (getD row (i / 8) 0 / 2 ^ (i % 8)) {m = 2} (zero-lt-suc 1)
+use Rattle.bit_rows.proofs.Bits.{length-bitsOf, getD-bitsOf}
 
 -- ---- a byte and its eight bits
 

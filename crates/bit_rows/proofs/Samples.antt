@@ -15,7 +15,7 @@ use Rattle.bit_rows.specs.Bits.{bitsOf, sampleCount, concat, littleEndia
 use Rattle.bit_rows.specs.Rows.{countBelow, withNumber}
 use Rattle.bit_rows.specs.Sequences.{below}
 use Rattle.bit_rows.proofs.Bits.{rank-bitsOf, length-bitsOf}
-use Rattle.bit_rows.proofs.Sequences.{all-upFrom, all-upFrom-at, upFrom-snoc, map-append}
+use Rattle.bit_rows.proofs.Tally.{map-append, upFrom-snoc, all-upFrom, all-upFrom-at}
 
 -- the first t samples are right
 abbrev pub RightTo : List ℕ → List ℕ → ℕ → Type 0

@@ -1,4 +1,4 @@
--- Laws of tests, ranges, rank and select over any list.
+-- Laws of rank and select over any list.
 use mathlib.Core.Path.{_≡_, refl, sym, ap, _∙_}
 use mathlib.Core.Logic.{_⊎_, inl, inr}
 use mathlib.Core.Bool.{Bool, true, false, cond, _&&_}
@@ -12,72 +12,9 @@ use lib.Dec.{eqb}
 use lib.ListN.{length, getD}
 use lib.Seq.{take-all}
 use borrow.Author.Tests.{eqb-true, eq-eqb, ne-eqb}
-use Rattle.bit_rows.specs.Sequences.{bit, tally, all, upFrom, occurrences, rank, select}
-
--- ---- tests
-
-pub le-or-lt : (a b : ℕ) → (a ≤ b) ⊎ (b < a)
-le-or-lt a b = go (decLe a b)
-  where
-    go : Dec (a ≤ b) → (a ≤ b) ⊎ (b < a)
-    go (yes h) = inl h
-    go (no h) = inr (omega arith)
-
-pub bit-le : (b : Bool) → bit b ≤ 1
-bit-le true = omega arith
-bit-le false = omega arith
-
-pub bit-eq : (v x : ℕ) → v ≡ x → bit (eqb v x) ≡ 1
-bit-eq v x e = ap bit (eq-eqb v x e)
-
-pub bit-ne : (v x : ℕ) → (v ≡ x → ⊥) → bit (eqb v x) ≡ 0
-bit-ne v x e = ap bit (ne-eqb v x e)
-
-and-true : (a b : Bool) → a && b ≡ true → (a ≡ true) × (b ≡ true)
-and-true true b e = (refl, e)
-and-true false b e = (e, cc)
-
--- ---- the numbers of a range
-
-pub length-upFrom : (s n : ℕ) → length (upFrom s n) ≡ n
-length-upFrom s zero = refl
-length-upFrom s (suc n) = ap suc (length-upFrom (suc s) n)
-
-pub upFrom-snoc : (s n : ℕ) → upFrom s (suc n) ≡ upFrom s n ++ ((s + n) ∷ [])
-upFrom-snoc s zero = ap (λ (x : ℕ). x ∷ []) (omega arith)
-upFrom-snoc s (suc n) =
-    let e : suc s + n ≡ s + suc n = omega arith in
-    ap (λ (l : List ℕ). s ∷ l) (rw e at (upFrom-snoc (suc s) n))
-
--- a test holds of each number of a range
-pub all-upFrom : (p : ℕ → Bool) (s n : ℕ) → ((i : ℕ) → s ≤ i → i < s + n → p i ≡ true) → all p (upFrom s n) ≡ true
-all-upFrom p s zero h = refl
-all-upFrom p s (suc n) h =
-    let e = h s (omega arith) (omega arith) in
-    rw e (all-upFrom p (suc s) n (λ i l m. h i (omega arith) (omega arith)))
-
-pub all-upFrom-at : (p : ℕ → Bool) (s n : ℕ) → all p (upFrom s n) ≡ true → (i : ℕ) → s ≤ i → i < s + n → p i ≡ true
-all-upFrom-at p s zero e i l m = absurd (not-suc-le-zero {n = 0} (omega arith))
-all-upFrom-at p s (suc n) e i l m =
-    let both = and-true (p s) (all p (upFrom (suc s) n)) e in
-    go (all-upFrom-at p (suc s) n (both .1) i) (both .0) (le-or-lt i s)
-  where
-    go : (suc s ≤ i → i < suc s + n → p i ≡ true) → p s ≡ true → (i ≤ s) ⊎ (s < i) → p i ≡ true
-    go rest e (inl q) =
-        let same : s ≡ i = omega arith in
-        rw same at e
-    go rest e (inr q) = rest q (omega arith)
-
--- ---- counting
-
-module _ {A : Type 0} where
-  pub tally-append : (p : A → Bool) (xs ys : List A) → tally p (xs ++ ys) ≡ tally p xs + tally p ys
-  tally-append p [] ys = omega arith
-  tally-append p (x ∷ xs) ys = omega (arith, tally-append p xs ys)
-
-  pub map-append : {B : Type 0} (f : A → B) (xs ys : List A) → map f (xs ++ ys) ≡ map f xs ++ map f ys
-  map-append f [] ys = refl
-  map-append {B} f (x ∷ xs) ys = ap (λ (l : List B). f x ∷ l) (map-append f xs ys)
+use Rattle.bit_rows.specs.Sequences.{bit, occurrences, rank, select}
+use Rattle.bit_rows.proofs.Tests.{bit-le, bit-eq, bit-ne, le-or-lt}
+use Rattle.bit_rows.proofs.Tally.{tally-append}
 
 -- ---- rank
 

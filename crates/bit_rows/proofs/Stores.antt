@@ -16,7 +16,8 @@ use borrow.Author.Tests.{eqb-true, eqb-false, eq-eqb}
 use Rattle.bit_rows.specs.Bits.{bitAt, bitsOf, rowBytes, littleEndian, numberAt, unusedClear}
 use Rattle.bit_rows.specs.Rows.{withBit, withNumber}
 use Rattle.bit_rows.proofs.Bits.{length-bitsOf, getD-bitsOf}
-use Rattle.bit_rows.proofs.Sequences.{le-or-lt, all-upFrom, all-upFrom-at}
+use Rattle.bit_rows.proofs.Tests.{le-or-lt}
+use Rattle.bit_rows.proofs.Tally.{all-upFrom, all-upFrom-at}
 
 -- ---- numbers of 32 bits
 

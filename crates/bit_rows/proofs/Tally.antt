@@ -62,6 +62,10 @@ module _ {A : Type 0} where
   tally-map p f [] = refl
   tally-map p f (x ∷ xs) = omega (arith, tally-map p f xs)
 
+  pub map-append : {B : Type 0} (f : A → B) (xs ys : List A) → map f (xs ++ ys) ≡ map f xs ++ map f ys
+  map-append f [] ys = refl
+  map-append {B} f (x ∷ xs) ys = ap (λ (l : List B). f x ∷ l) (map-append f xs ys)
+
   pub all-append : (p : A → Bool) (xs ys : List A) → all p xs ≡ true → all p ys ≡ true → all p (xs ++ ys) ≡ true
   all-append p [] ys e f = f
   all-append p (x ∷ xs) ys e f =
@@ -71,6 +75,12 @@ module _ {A : Type 0} where
 pub upFrom-append : (s a b : ℕ) → upFrom s (a + b) ≡ upFrom s a ++ upFrom (s + a) b
 upFrom-append s zero b = rw (zero-add b, add-zero s)
 upFrom-append s (suc a) b = rw (suc-add a b, add-suc s a, ← suc-add s a) (ap (λ r. s ∷ r) (upFrom-append (suc s) a b))
+
+pub upFrom-snoc : (s n : ℕ) → upFrom s (suc n) ≡ upFrom s n ++ ((s + n) ∷ [])
+upFrom-snoc s zero = ap (λ (x : ℕ). x ∷ []) (omega arith)
+upFrom-snoc s (suc n) =
+    let e : suc s + n ≡ s + suc n = omega arith in
+    ap (λ (l : List ℕ). s ∷ l) (rw e at (upFrom-snoc (suc s) n))
 
 pub length-upFrom : (s n : ℕ) → length (upFrom s n) ≡ n
 length-upFrom s zero = refl

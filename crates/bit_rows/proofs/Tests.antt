@@ -3,7 +3,7 @@ use Prim.Native.Nat.{ℕ, suc, _+_, _≤_, _<_}
 use native.Mathlib.Omega.{arith}
 use native.Mathlib.Decide.{decLe, ℕ-discrete}
 use native.Mathlib.Nat.{eq-or-lt-of-le}
-use mathlib.Core.Path.{_≡_, refl, sym, _∙_}
+use mathlib.Core.Path.{_≡_, refl, sym, ap, _∙_}
 use mathlib.Core.Logic.{_⊎_, inl, inr}
 use mathlib.Core.Bool.{Bool, true, false, not, _&&_, _||_, true≢false}
 use lib.Dec.{ltb, leb, eqb}
@@ -51,6 +51,19 @@ both-and a b e f = rw (e, f)
 pub and-cases : (a b : Bool) → (a && b) ≡ false → (a ≡ false) ⊎ (b ≡ false)
 and-cases true b e = inr e
 and-cases false b e = inl refl
+
+pub bit-eq : (v x : ℕ) → v ≡ x → bit (eqb v x) ≡ 1
+bit-eq v x e = ap bit (eq-eqb v x e)
+
+pub bit-ne : (v x : ℕ) → (v ≡ x → ⊥) → bit (eqb v x) ≡ 0
+bit-ne v x e = ap bit (ne-eqb v x e)
+
+pub le-or-lt : (a b : ℕ) → (a ≤ b) ⊎ (b < a)
+le-or-lt a b = go (decLe a b)
+  where
+    go : Dec (a ≤ b) → (a ≤ b) ⊎ (b < a)
+    go (yes h) = inl h
+    go (no h) = inr (omega arith)
 
 -- which of two numbers is the greater
 pub data Cmp (a b : ℕ) : Type 0 where

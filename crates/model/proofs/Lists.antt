@@ -10,15 +10,12 @@ use lib.Seq.{length-take-le, take-append-seam, split-at, getD-append-seam}
 use Rattle.bit_rows.specs.Sequences.{bit, tally}
 use Rattle.bit_rows.specs.Bits.{concat}
 use Rattle.bit_rows.proofs.Tally.{tally-append, tally-take-add}
+pub use Rattle.bit_rows.proofs.Tally.{map-append}
 use Rattle.model.specs.Lists.{keep, part, Within}
 
 -- ---- maps and joins
 
 module _ {A B : Type 0} where
-  pub map-append : (f : A → B) (xs ys : List A) → map f (xs ++ ys) ≡ map f xs ++ map f ys
-  map-append f [] ys = refl
-  map-append f (x ∷ xs) ys = ap (λ (r : List B). f x ∷ r) (map-append f xs ys)
-
   pub map-take : (f : A → B) (n : ℕ) (xs : List A) → take n (map f xs) ≡ map f (take n xs)
   map-take f zero xs = refl
   map-take f (suc n) [] = refl

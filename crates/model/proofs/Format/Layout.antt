@@ -10,7 +10,7 @@ use Rattle.bit_rows.specs.Sequences.{below}
 use Rattle.bit_rows.specs.Bits.{concat, sum, pack, littleEndian, numberAt, samplesOf, sampleCount, rowBytes}
 use Rattle.bit_rows.proofs.Chunks.{length-chunks, chunk-at}
 use Rattle.bit_rows.proofs.Pack.{length-pack}
-use Rattle.bit_rows.proofs.Numbers.{length-numbers, numberAt-numbers, length-samples}
+use Rattle.bit_rows.proofs.LittleEndian.{length-numbers, numberAt-numbers, length-samples}
 use Rattle.model.specs.Lists.{Within}
 use Rattle.model.specs.Rows.{height, row}
 use Rattle.model.specs.Format.{Library, Sizes, sizesOf, rowCount, samplesOffset, samplesLength, rowsOffset, rowsLength, archiveLength, header, tableFrom, rowsOf, encode}

@@ -14,7 +14,7 @@ use Rattle.bit_rows.specs.Bits.{sum, bitsOf, pack, unusedClear, numberAt, sampl
 use Rattle.bit_rows.proofs.Tests.{both-and}
 use Rattle.bit_rows.proofs.Tally.{all-upFrom, length-upFrom, getD-map-below}
 use Rattle.bit_rows.proofs.Pack.{bitsOf-pack, unused-pack}
-use Rattle.bit_rows.proofs.Numbers.{samples-right}
+use Rattle.bit_rows.proofs.LittleEndian.{samples-right}
 use Rattle.model.specs.Lists.{any, Within}
 use Rattle.model.specs.Outcome.{Outcome, answered, refused, refuse}
 use Rattle.model.specs.Rows.{height, row, decode}

@@ -14,8 +14,9 @@ use Rattle.bit_rows.specs.Bits.{concat, sum, bitsOf, pack, littleEndian, unused
 use Rattle.bit_rows.proofs.Tests.{and-both}
 use Rattle.bit_rows.proofs.Tally.{all-upFrom-at, length-upFrom}
 use Rattle.bit_rows.proofs.Chunks.{concat-chunks, concat-below}
-use Rattle.bit_rows.proofs.Pack.{length-bitsOf, getD-bitsOf, bitAt-lt, pack-bitsOf}
-use Rattle.bit_rows.proofs.Numbers.{little-numberAt, numbers-at, samples-are}
+use Rattle.bit_rows.proofs.Bits.{length-bitsOf, getD-bitsOf, bitAt-lt}
+use Rattle.bit_rows.proofs.Pack.{pack-bitsOf}
+use Rattle.bit_rows.proofs.LittleEndian.{little-numberAt, numbers-at, samples-are}
 use Rattle.model.specs.Lists.{any, Within}
 use Rattle.model.specs.Outcome.{Outcome, answered, refused, refuse}
 use Rattle.model.specs.Rows.{height, row, decode}

@@ -8,7 +8,7 @@ use Rattle.bit_rows.specs.Bits.{bitAt}
 use Rattle.bit_rows.specs.Rows.{countBelow}
 use Rattle.bit_rows.proofs.Bits.{count-suc, count-mono}
 use Rattle.bit_rows.proofs.Search.{found-at, found-none}
-use Rattle.bit_rows.proofs.Sequences.{bit-eq, bit-ne}
+use Rattle.bit_rows.proofs.Tests.{bit-eq, bit-ne}
 use Rattle.bit_rows.proofs.select.find_bit.Statement.{statement}
 use Rattle.bit_rows.proofs.select.find_bit.Tie as tie
 

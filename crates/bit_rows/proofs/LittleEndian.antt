@@ -13,7 +13,7 @@ use borrow.Author.Tests.{eqb-true, eq-eqb}
 use Rattle.bit_rows.specs.Sequences.{below}
 use Rattle.bit_rows.specs.Bits.{concat, bitsOf, sampleCount, littleEndian, numberAt, sample, samplesOf, samplesRight}
 use Rattle.bit_rows.proofs.Tally.{tally-le-length, all-upFrom, all-upFrom-at, length-upFrom, getD-map-below}
-use Rattle.bit_rows.proofs.Pack.{length-bitsOf}
+use Rattle.bit_rows.proofs.Bits.{length-bitsOf}
 
 -- ---- one number
 
