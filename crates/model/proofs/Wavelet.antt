@@ -6,3 +6,13 @@ pub mod Rows
 pub mod Mix
 pub mod Split
 pub mod Decode
+pub mod Descend
+pub mod Access
+pub mod Counts
+pub mod Rank
+pub mod CountBelow
+pub mod Sorted
+pub mod Quantile
+pub mod Place
+pub mod Select
+pub mod Next

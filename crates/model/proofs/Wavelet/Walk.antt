@@ -81,12 +81,13 @@ selectFrom rows v zero j s e k = k
 selectFrom rows v (suc m) j s e k =
     let b = rows j in
     let mid = left b s e in
-    let low = select 0 b (suc ((s - rank 1 b s) + selectFrom rows v m (suc j) s mid k)) - s in
-    let high = select 1 b (suc (rank 1 b s + selectFrom rows v m (suc j) mid e k)) - s in
+    let low = select 0 b ((s - rank 1 b s) + selectFrom rows v m (suc j) s mid k + 1) - s in
+    let high = select 1 b (rank 1 b s + selectFrom rows v m (suc j) mid e k + 1) - s in
     cond (eqb (v / 2 ^ m % 2) 1) high low
 
+-- the place of the i-th entry v, i from 1
 abbrev pub selectWalk : (ℕ → List ℕ) → ℕ → ℕ → ℕ → ℕ → ℕ
-selectWalk rows h n v k = selectFrom rows v h 0 0 n k
+selectWalk rows h n v i = selectFrom rows v h 0 0 n (i - 1)
 
 -- ---- what the places are
 
