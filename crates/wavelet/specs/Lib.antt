@@ -1,0 +1,2 @@
+-- What the contracts of wavelet cite.
+pub mod Levels
