@@ -16,7 +16,7 @@ use Rattle.model.proofs.Wavelet.Rows.{row-length, RowsOf}
 use Rattle.model.proofs.Wavelet.Mix.{Mix, mix-lows, mix-highs, mix-bits, mix-within, mix-lows-within, mix-highs-within, mix-zeros, mix-length, mix-is, mix-of, mix-make}
 use Rattle.model.proofs.Wavelet.Split.{row-top, row-suc}
 
-pub decode-same : (h n : ℕ) (r s : ℕ → List ℕ) → ((j : ℕ) → j < h → r j ≡ s j) → decode h n r ≡ decode h n s
+decode-same : (h n : ℕ) (r s : ℕ → List ℕ) → ((j : ℕ) → j < h → r j ≡ s j) → decode h n r ≡ decode h n s
 decode-same zero n r s e = refl
 decode-same (suc h) n r s e =
     let z : ℕ = occurrences 0 (r 0) in
@@ -111,7 +111,12 @@ decode-rows (suc h) xs b =
     cut : (j : ℕ) → j < h → row (suc h) (suc j) xs ≡ row h j ls ++ row h j hs
     cut j l = row-suc h j xs ls hs l (mix-lows mix) (mix-highs mix)
 
+pub decode-of : {h n : ℕ} {xs : List ℕ} {rows : ℕ → List ℕ} → RowsOf h n xs rows → decode h n rows ≡ xs
+decode-of {h} {n} {xs} {rows} R =
+    ap (λ (k : ℕ). decode h k rows) (sym (R .size)) ∙ decode-same h (length xs) rows (λ j. row h j xs) (λ j l. sym (R .rowwise j l))
+    ∙ decode-rows h xs (R .entries)
+
 -- so no two lists of one length have the same rows
-pub rows-unique : (h : ℕ) (xs ys : List ℕ) → Within (2 ^ h) xs → Within (2 ^ h) ys → length xs ≡ length ys → ((j : ℕ) → j < h → row h j xs ≡ row h j ys) → xs ≡ ys
-rows-unique h xs ys bx by e r =
-    sym (decode-rows h xs bx) ∙ ap (λ (n : ℕ). decode h n (λ j. row h j xs)) e ∙ decode-same h (length ys) (λ j. row h j xs) (λ j. row h j ys) r ∙ decode-rows h ys by
+pub rows-unique : (h : ℕ) (xs ys : List ℕ) → Within (2 ^ h) xs → Within (2 ^ h) ys → length xs ≡ length ys
+    → ((j : ℕ) → j < h → row h j xs ≡ row h j ys) → xs ≡ ys
+rows-unique h xs ys bx by e r = sym (decode-of (record { entries = bx; size = e; rowwise = r })) ∙ decode-rows h ys by
