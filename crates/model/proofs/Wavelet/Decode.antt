@@ -12,11 +12,11 @@ use Rattle.bit_rows.proofs.Tally.{tally-le-length}
 use Rattle.model.specs.Lists.{keep, Within}
 use Rattle.model.specs.Rows.{row, interleave, decode}
 use Rattle.model.proofs.Lists.{within-take, within-drop}
-use Rattle.model.proofs.Wavelet.Rows.{row-length}
+use Rattle.model.proofs.Wavelet.Rows.{row-length, RowsOf}
 use Rattle.model.proofs.Wavelet.Mix.{Mix, mix-lows, mix-highs, mix-bits, mix-within, mix-lows-within, mix-highs-within, mix-zeros, mix-length, mix-is, mix-of, mix-make}
 use Rattle.model.proofs.Wavelet.Split.{row-top, row-suc}
 
-pub decode-same : (h n : ℕ) (r s : ℕ → List ℕ) → ((j : ℕ) → j < h → r j ≡ s j) → decode h n r ≡ decode h n s
+decode-same : (h n : ℕ) (r s : ℕ → List ℕ) → ((j : ℕ) → j < h → r j ≡ s j) → decode h n r ≡ decode h n s
 decode-same zero n r s e = refl
 decode-same (suc h) n r s e =
     let z : ℕ = occurrences 0 (r 0) in
@@ -26,17 +26,12 @@ decode-same (suc h) n r s e =
     ∙ ap (λ (c : List ℕ). interleave (2 ^ h) c (decode h (occurrences 0 c) (λ j. take (occurrences 0 c) (s (suc j))))
     (decode h (n - occurrences 0 c) (λ j. drop (occurrences 0 c) (s (suc j))))) (e 0 (zero-lt-suc h))
 
-pub record Decoded (h n : ℕ) (rows : ℕ → List ℕ) : Type 0 where
-  pub entries : Within (2 ^ h) (decode h n rows)
-  pub size : length (decode h n rows) ≡ n
-  pub rowwise : (j : ℕ) → j < h → row h j (decode h n rows) ≡ rows j
-
 within-replicate : (m n : ℕ) → 0 < m → Within m (replicate n 0)
 within-replicate m zero l = tt
 within-replicate m (suc n) l = (l, within-replicate m n l)
 
 -- any rows of bits are the rows of what they decode to
-pub decoded : (h n : ℕ) (rows : ℕ → List ℕ) → ((j : ℕ) → j < h → length (rows j) ≡ n) → ((j : ℕ) → j < h → Within 2 (rows j)) → Decoded h n rows
+pub decoded : (h n : ℕ) (rows : ℕ → List ℕ) → ((j : ℕ) → j < h → length (rows j) ≡ n) → ((j : ℕ) → j < h → Within 2 (rows j)) → RowsOf h n (decode h n rows) rows
 decoded zero n rows len bits = record { entries = within-replicate 1 n (zero-lt-suc 0); size = length-replicate n 0; rowwise = λ j l. absurd (not-suc-le-zero l) }
 decoded (suc h) n rows len bits =
     go
@@ -54,7 +49,9 @@ decoded (suc h) n rows len bits =
     zn : z ≤ n
     zn = rw l₀ at (tally-le-length (eqb 0) (rows 0))
 
-    go : Decoded h z (λ j. take z (rows (suc j))) → Decoded h (n - z) (λ j. drop z (rows (suc j))) → Decoded (suc h) n rows
+    go : RowsOf h z (decode h z (λ j. take z (rows (suc j)))) (λ j. take z (rows (suc j)))
+        → RowsOf h (n - z) (decode h (n - z) (λ j. drop z (rows (suc j)))) (λ j. drop z (rows (suc j)))
+        → RowsOf (suc h) n (decode (suc h) n rows) rows
     go L R = record { entries = within-all; size = mix-length mix ∙ omega (arith, L .size, R .size, l₀, zn); rowwise = each }
       where
         A : List ℕ
@@ -114,7 +111,12 @@ decode-rows (suc h) xs b =
     cut : (j : ℕ) → j < h → row (suc h) (suc j) xs ≡ row h j ls ++ row h j hs
     cut j l = row-suc h j xs ls hs l (mix-lows mix) (mix-highs mix)
 
+pub decode-of : {h n : ℕ} {xs : List ℕ} {rows : ℕ → List ℕ} → RowsOf h n xs rows → decode h n rows ≡ xs
+decode-of {h} {n} {xs} {rows} R =
+    ap (λ (k : ℕ). decode h k rows) (sym (R .size)) ∙ decode-same h (length xs) rows (λ j. row h j xs) (λ j l. sym (R .rowwise j l))
+    ∙ decode-rows h xs (R .entries)
+
 -- so no two lists of one length have the same rows
-pub rows-unique : (h : ℕ) (xs ys : List ℕ) → Within (2 ^ h) xs → Within (2 ^ h) ys → length xs ≡ length ys → ((j : ℕ) → j < h → row h j xs ≡ row h j ys) → xs ≡ ys
-rows-unique h xs ys bx by e r =
-    sym (decode-rows h xs bx) ∙ ap (λ (n : ℕ). decode h n (λ j. row h j xs)) e ∙ decode-same h (length ys) (λ j. row h j xs) (λ j. row h j ys) r ∙ decode-rows h ys by
+pub rows-unique : (h : ℕ) (xs ys : List ℕ) → Within (2 ^ h) xs → Within (2 ^ h) ys → length xs ≡ length ys
+    → ((j : ℕ) → j < h → row h j xs ≡ row h j ys) → xs ≡ ys
+rows-unique h xs ys bx by e r = sym (decode-of (record { entries = bx; size = e; rowwise = r })) ∙ decode-rows h ys by

@@ -1,5 +1,5 @@
 -- The next document: the smallest number from v upward in a list is the entry whose rank is the number of entries below v.
-use Prim.Native.Nat.{ℕ, suc, _-_, _^_, _≤_, _<_}
+use Prim.Native.Nat.{ℕ, suc, _-_, _≤_, _<_}
 use mathlib.Core.Path.{_≡_, sym, ap, _∙_, subst}
 use mathlib.Core.List.{List}
 use native.Mathlib.Omega.{arith}
@@ -8,11 +8,11 @@ use lib.ListN.{length}
 use lib.Dec.{ltb}
 use Rattle.bit_rows.specs.Sequences.{tally, occurrences}
 use Rattle.bit_rows.proofs.Tally.{tally-le-length}
-use Rattle.model.specs.Lists.{part, Within}
-use Rattle.model.specs.Rows.{row}
+use Rattle.model.specs.Lists.{part}
 use Rattle.model.specs.Queries.{quantile}
 use Rattle.model.proofs.Lists.{length-part}
 use Rattle.model.proofs.Wavelet.Walk.{countBelowWalk, quantileWalk}
+use Rattle.model.proofs.Wavelet.Rows.{RowsOf}
 use Rattle.model.proofs.Wavelet.CountBelow.{count-below-walk}
 use Rattle.model.proofs.Wavelet.Quantile.{quantile-walk}
 use Rattle.model.proofs.Wavelet.Sorted.{Ranked, quantile-ranked, tally-below-mono, tally-below-suc}
@@ -48,14 +48,16 @@ next-none v xs l w k =
 
 -- ---- by walks over the rows, in a part of the list
 
-module _ (h : ℕ) (xs : List ℕ) (w : Within (2 ^ h) xs) (v a b : ℕ) (ab : a ≤ b) (l : b ≤ length xs) where
-  pub next-walk : countBelowWalk (λ j. row h j xs) h (length xs) v a b < b - a
-      → Next v (part a b xs) (quantileWalk (λ j. row h j xs) h (length xs) a b (countBelowWalk (λ j. row h j xs) h (length xs) v a b))
-  next-walk m =
-      let e = count-below-walk h xs v a b ab w l in
-      subst (Next v (part a b xs))
-      (sym (quantile-walk h xs w a b (countBelowWalk (λ j. row h j xs) h (length xs) v a b) ab l m ∙ ap (λ (r : ℕ). quantile r (part a b xs)) e))
-      (next-is v (part a b xs) (omega (arith, e, length-part a b xs l)))
+module _ {h n : ℕ} {xs : List ℕ} {rows : ℕ → List ℕ} (R : RowsOf h n xs rows) (v a b : ℕ) (ab : a ≤ b) (l : b ≤ n) where
+  size : length (part a b xs) ≡ b - a
+  size = length-part a b xs (omega (arith, R .size))
 
-  pub next-walk-none : b - a ≤ countBelowWalk (λ j. row h j xs) h (length xs) v a b → (d : ℕ) → v ≤ d → occurrences d (part a b xs) ≡ 0
-  next-walk-none m = next-none v (part a b xs) (omega (arith, count-below-walk h xs v a b ab w l, length-part a b xs l))
+  pub next-walk : countBelowWalk rows h n v a b < b - a → Next v (part a b xs) (quantileWalk rows h n a b (countBelowWalk rows h n v a b))
+  next-walk m =
+      let e = count-below-walk R v a b ab l in
+      subst (Next v (part a b xs))
+      (sym (quantile-walk R a b ab (countBelowWalk rows h n v a b) l m ∙ ap (λ (r : ℕ). quantile r (part a b xs)) e))
+      (next-is v (part a b xs) (omega (arith, e, size)))
+
+  pub next-walk-none : b - a ≤ countBelowWalk rows h n v a b → (d : ℕ) → v ≤ d → occurrences d (part a b xs) ≡ 0
+  next-walk-none m = next-none v (part a b xs) (omega (arith, count-below-walk R v a b ab l, size))

@@ -30,6 +30,15 @@ select-none v (x ∷ xs) j h =
     later (eqb v x) j 0 (suc (select v xs (j - bit (eqb v x)))) (λ t o. omega (arith, ap bit t))
     ∙ ap suc (select-none v xs (j - bit (eqb v x)) (omega arith))
 
+-- after as many as stand before s, the next ones stand at s or later
+pub le-select : (v : ℕ) (xs : List ℕ) (s k : ℕ) → s ≤ length xs → s ≤ select v xs (rank v xs s + k + 1)
+le-select v xs zero k l = zero-le
+le-select v [] (suc s) k l = absurd (not-suc-le-zero l)
+le-select v (x ∷ xs) (suc s) k l =
+    let j : ℕ = rank v (x ∷ xs) (suc s) + k + 1 in
+    let e : j - bit (eqb v x) ≡ rank v xs s + k + 1 = omega arith in
+    rw (later (eqb v x) j 0 (suc (select v xs (j - bit (eqb v x)))) (λ t o. omega (arith, ap bit t)), e) (suc-le-suc (le-select v xs s k (le-of-suc-le-suc l)))
+
 -- the j-th element v stands at p
 pub record Placed (v : ℕ) (xs : List ℕ) (j p : ℕ) : Type 0 where
   pub inside : p < length xs

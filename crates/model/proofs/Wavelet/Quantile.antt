@@ -1,8 +1,8 @@
 -- The walk down by rank yields the entry of that rank in a part of the list.
-use Prim.Native.Nat.{ℕ, zero, suc, _+_, _-_, _*_, _^_, _≤_, _<_, zero-le}
+use Prim.Native.Nat.{ℕ, zero, suc, _+_, _-_, _*_, _^_, _≤_, _<_}
 use mathlib.Core.Path.{_≡_, sym, ap, _∙_, fun-ext}
 use mathlib.Core.List.{List}
-use native.Mathlib.Nat.{zero-add, le-refl}
+use native.Mathlib.Nat.{zero-add}
 use native.Mathlib.Omega.{arith}
 use native.Mathlib.Decide.{decLe}
 use lib.ListN.{length}
@@ -11,22 +11,22 @@ use lib.Dec.{ltb, eqb}
 use borrow.Author.Tests.{lt-ltb, le-ltb}
 use Rattle.bit_rows.specs.Sequences.{tally}
 use Rattle.bit_rows.proofs.Tally.{tally-le-length}
-use Rattle.model.specs.Lists.{part, Within}
+use Rattle.model.specs.Lists.{part}
 use Rattle.model.specs.Rows.{row}
 use Rattle.model.specs.Queries.{quantile}
 use Rattle.model.proofs.Lists.{length-part, within-part}
 use Rattle.model.proofs.Wavelet.Walk.{zerosIn, pos, key, quantileFrom, quantileWalk}
 use Rattle.model.proofs.Wavelet.Groups.{tally-ltb-suc}
-use Rattle.model.proofs.Wavelet.Rows.{key-leaf, tally-root, tally-before-root, pos-root, row-left, row-right, row-start, row-middle, row-end, count-halves, count-start, count-middle}
+use Rattle.model.proofs.Wavelet.Rows.{key-leaf, RowsOf, tally-root, tally-before-root, root-start, root-place, root-end, row-left, row-right, row-start, row-middle, row-end, count-halves, count-start, count-middle}
 use Rattle.model.proofs.Wavelet.Counts.{low-count}
 use Rattle.model.proofs.Wavelet.Sorted.{quantile-is}
 
-module _ (h : ℕ) (xs : List ℕ) (a b : ℕ) (ab : a ≤ b) (r : ℕ) where
+module _ {h n : ℕ} {xs : List ℕ} {rows : ℕ → List ℕ} (R : RowsOf h n xs rows) (a b : ℕ) (ab : a ≤ b) (r : ℕ) where
   -- the entry of rank r is that of rank t among the part's entries in the node q
   abbrev At : ℕ → ℕ → ℕ → Type 0
   At m j q =
       (t : ℕ) → q < 2 ^ j → t + tally (λ v. ltb (key h j v) q) (part a b xs) ≡ r → t < tally (λ v. eqb (key h j v) q) (part a b xs)
-      → quantileFrom (λ k. row h k xs) m j q (pos h xs j q 0) (pos h xs j q a) (pos h xs j q b) (pos h xs j q (length xs)) t ≡ quantile r (part a b xs)
+      → quantileFrom rows m j q (pos h xs j q 0) (pos h xs j q a) (pos h xs j q b) (pos h xs j q (length xs)) t ≡ quantile r (part a b xs)
 
   quantile-from : (m j q : ℕ) → j + m ≡ h → At m j q
   quantile-from zero j q e t lq es lt =
@@ -47,23 +47,21 @@ module _ (h : ℕ) (xs : List ℕ) (a b : ℕ) (ab : a ≤ b) (r : ℕ) where
           → zerosIn (row h j xs) (pos h xs j q a) (pos h xs j q b) ≡ tally (λ v. eqb (key h (suc j) v) (2 * q)) p
           → ((c : ℕ) → At m (suc j) c)
           → Dec (t < tally (λ v. eqb (key h (suc j) v) (2 * q)) p)
-          → quantileFrom (λ k. row h k xs) (suc m) j q (pos h xs j q 0) (pos h xs j q a) (pos h xs j q b) (pos h xs j q (length xs)) t ≡ quantile r p
+          → quantileFrom rows (suc m) j q (pos h xs j q 0) (pos h xs j q a) (pos h xs j q b) (pos h xs j q (length xs)) t ≡ quantile r p
       go lj z ih (yes d) =
-          rw (lt-ltb t (zerosIn (row h j xs) (pos h xs j q a) (pos h xs j q b)) (omega arith))
-          ((λ i. quantileFrom (λ k. row h k xs) m (suc j) (2 * q) (sym (row-start h j xs lj q lq) i) (row-left h j xs lj q lq a i) (row-left h j xs lj q lq b i)
+          rw (← (R .rowwise j lj), lt-ltb t (zerosIn (row h j xs) (pos h xs j q a) (pos h xs j q b)) (omega arith))
+          ((λ i. quantileFrom rows m (suc j) (2 * q) (sym (row-start h j xs lj q lq) i) (row-left h j xs lj q lq a i) (row-left h j xs lj q lq b i)
           (row-left h j xs lj q lq (length xs) i) t)
           ∙ ih (2 * q) t (omega arith) (omega (arith, count-start h j lj q p)) d)
       go lj z ih (no d) =
-          rw (le-ltb t (zerosIn (row h j xs) (pos h xs j q a) (pos h xs j q b)) (omega arith))
-          ((λ i. quantileFrom (λ k. row h k xs) m (suc j) (2 * q + 1) (row-middle h j xs lj q lq i) (row-right h j xs lj q lq a i) (row-right h j xs lj q lq b i)
+          rw (← (R .rowwise j lj), le-ltb t (zerosIn (row h j xs) (pos h xs j q a) (pos h xs j q b)) (omega arith))
+          ((λ i. quantileFrom rows m (suc j) (2 * q + 1) (row-middle h j xs lj q lq i) (row-right h j xs lj q lq a i) (row-right h j xs lj q lq b i)
           (sym (row-end h j xs lj q lq) i) (t - z i))
           ∙ ih (2 * q + 1) (t - tally (λ v. eqb (key h (suc j) v) (2 * q)) p) (omega arith) (omega (arith, count-middle h j lj q p)) (omega (arith, count-halves h j lj q p)))
 
-pub quantile-walk : (h : ℕ) (xs : List ℕ) → Within (2 ^ h) xs → (a b r : ℕ) → a ≤ b → b ≤ length xs → r < b - a
-    → quantileWalk (λ j. row h j xs) h (length xs) a b r ≡ quantile r (part a b xs)
-quantile-walk h xs w a b r ab l lr =
-    let la : a ≤ length xs = omega arith in
-    (λ i. quantileFrom (λ j. row h j xs) h 0 0 (sym (pos-root h xs 0 w zero-le) i) (sym (pos-root h xs a w la) i) (sym (pos-root h xs b w l) i)
-    (sym (pos-root h xs (length xs) w (le-refl (length xs))) i) r)
-    ∙ quantile-from h xs a b ab r h 0 0 (zero-add h) r (pow-pos 0) (omega (arith, tally-before-root h (part a b xs)))
-    (omega (arith, length-part a b xs l, tally-root h (part a b xs) (within-part (2 ^ h) a b xs w)))
+  pub quantile-walk : b ≤ n → r < b - a → quantileWalk rows h n a b r ≡ quantile r (part a b xs)
+  quantile-walk l lr =
+      let la : a ≤ n = omega arith in
+      (λ i. quantileFrom rows h 0 0 (root-start R i) (root-place R a la i) (root-place R b l i) (root-end R i) r)
+      ∙ quantile-from h 0 0 (zero-add h) r (pow-pos 0) (omega (arith, tally-before-root h (part a b xs)))
+      (omega (arith, length-part a b xs (omega (arith, R .size)), tally-root h (part a b xs) (within-part (2 ^ h) a b xs (R .entries))))

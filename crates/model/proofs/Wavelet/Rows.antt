@@ -1,8 +1,8 @@
 -- The rows of a list: their length, their bits, and the step law at the keys of the rows.
 use Prim.Native.Nat.{ℕ, suc, _+_, _-_, _*_, _/_, _%_, _^_, _≤_, _<_, zero-le}
-use mathlib.Core.Path.{_≡_, sym, ap, ap₂, _∙_, subst, subst₂, fun-ext}
+use mathlib.Core.Path.{_≡_, refl, sym, ap, ap₂, _∙_, subst, subst₂, fun-ext}
 use mathlib.Core.List.{List, [], _∷_, map}
-use native.Mathlib.Nat.{sub-self, sub-zero, div-one, mod-lt, zero-lt-suc, div-eq-of-lt, div-div-eq-div-mul, pow-suc}
+use native.Mathlib.Nat.{le-refl, sub-self, sub-zero, div-one, mod-lt, zero-lt-suc, div-eq-of-lt, div-div-eq-div-mul, pow-suc}
 use native.Mathlib.Omega.{arith}
 use lib.ListN.{length, getD, take, length-map}
 use lib.Seq.{length-take-le}
@@ -55,6 +55,15 @@ within-bits f (x ∷ l) = (mod-lt (f x) {m = 2} (zero-lt-suc 1), within-bits f l
 pub row-below : (h j : ℕ) (xs : List ℕ) → Within 2 (row h j xs)
 row-below h j xs = within-bits (λ v. v / 2 ^ (h - 1 - j)) (arranged h j xs)
 
+-- n entries, all below 2 ^ h, and their rows; past row h - 1 there may stand anything
+pub record RowsOf (h n : ℕ) (xs : List ℕ) (rows : ℕ → List ℕ) : Type 0 where
+  pub entries : Within (2 ^ h) xs
+  pub size : length xs ≡ n
+  pub rowwise : (j : ℕ) → j < h → row h j xs ≡ rows j
+
+pub rows-of : (h : ℕ) (xs : List ℕ) → Within (2 ^ h) xs → RowsOf h (length xs) xs (λ j. row h j xs)
+rows-of h xs w = record { entries = w; size = refl; rowwise = λ j l. refl }
+
 -- ---- places
 
 pub row-pos-lt : (h j : ℕ) (xs : List ℕ) (q i : ℕ) → q < 2 ^ j → i < length xs → key h j (getD xs i 0) ≡ q → pos h xs j q i < length (row h j xs)
@@ -70,6 +79,17 @@ tally-before-root h xs = tally-none (λ v. ltb (key h 0 v) 0) (λ v. le-ltb (key
 pub pos-root : (h : ℕ) (xs : List ℕ) (a : ℕ) → Within (2 ^ h) xs → a ≤ length xs → pos h xs 0 0 a ≡ a
 pos-root h xs a b l =
     omega (arith, tally-before-root h xs, tally-root h (take a xs) (within-take (2 ^ h) a xs b), length-take-le a xs l)
+
+-- where a walk begins
+module _ {h n : ℕ} {xs : List ℕ} {rows : ℕ → List ℕ} (R : RowsOf h n xs rows) where
+  pub root-place : (a : ℕ) → a ≤ n → a ≡ pos h xs 0 0 a
+  root-place a l = sym (pos-root h xs a (R .entries) (omega (arith, R .size)))
+
+  pub root-start : 0 ≡ pos h xs 0 0 0
+  root-start = root-place 0 zero-le
+
+  pub root-end : n ≡ pos h xs 0 0 (length xs)
+  root-end = sym (R .size) ∙ sym (pos-root h xs (length xs) (R .entries) (le-refl (length xs)))
 
 -- ---- the step law
 
