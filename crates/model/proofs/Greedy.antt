@@ -1,0 +1,3 @@
+-- The greedy search gives the top-k answer: told over any count that never rises from a node to its halves, and then for the count of entries.
+pub mod Abstract
+pub mod Nodes
