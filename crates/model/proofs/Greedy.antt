@@ -1,3 +1,6 @@
 -- The greedy search gives the top-k answer: told over any count that never rises from a node to its halves, and then for the count of entries.
 pub mod Abstract
 pub mod Nodes
+pub mod Frontier
+pub mod Visits
+pub mod Moves
