@@ -4,3 +4,4 @@ pub mod Nodes
 pub mod Frontier
 pub mod Visits
 pub mod Moves
+pub mod Need
