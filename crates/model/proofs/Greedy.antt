@@ -5,3 +5,7 @@ pub mod Frontier
 pub mod Visits
 pub mod Moves
 pub mod Need
+pub mod Order
+pub mod Answers
+pub mod Counts
+pub mod Theorem

@@ -17,6 +17,7 @@ use Rattle.model.specs.TopK.{Node, node, start, innerNodes, last}
 use Rattle.model.proofs.Lists.{map-append}
 use Rattle.model.proofs.Sorting.{Every, every-head, every-tail, every-cons, every-take, Sorted}
 use Rattle.model.proofs.Priority.{aheadOf, Ahead, ahead-true, true-ahead}
+use Rattle.model.proofs.Ranking.{every-last}
 use Rattle.model.proofs.Greedy.Abstract.{leafPair, needBy, neededFor, needFor}
 use Rattle.model.proofs.Greedy.Nodes.{nodes, living, documents, place, aheadNode}
 use Rattle.model.proofs.Greedy.Moves.{toll, tollOf, pairsIn}
@@ -130,10 +131,6 @@ module _ (count : Node → ℕ) where
   every-pair p r f (node zero d ∷ ns) a =
       every-cons r (leafPair count d) (pairsIn count ns) (f d (every-head p (node zero d) ns a)) (every-pair p r f ns (every-tail p (node zero d) ns a))
   every-pair p r f (node (suc l) q ∷ ns) a = every-pair p r f ns (every-tail p (node (suc l) q) ns a)
-
-  every-last : (r : Pair → Bool) (p : Pair) (ps : List Pair) → Every r (p ∷ ps) → r (last p ps) ≡ true
-  every-last r p [] a = every-head r p [] a
-  every-last r p (q ∷ ps) a = every-last r q ps (every-tail r p (q ∷ ps) a)
 
   -- the need of a front part, along a sorted list of nodes
   abbrev along : List Node → Pair → ℕ
