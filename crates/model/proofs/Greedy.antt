@@ -9,3 +9,4 @@ pub mod Order
 pub mod Answers
 pub mod Counts
 pub mod Theorem
+pub mod Waits

@@ -51,7 +51,7 @@ tally-le-under p [] = omega arith
 tally-le-under p (m ∷ ms) = omega (arith, tally-append p (under m) (allUnder ms), under-self p m, tally-le-under p ms)
 
 -- no two waiting nodes have a leaf in common
-abbrev Apart : List Node → Type 0
+abbrev pub Apart : List Node → Type 0
 Apart ms = (v : ℕ) → tally (leafly (eqb v)) (allUnder ms) ≤ 1
 
 module _ (count : Node → ℕ) (lives : Node → Bool) where
@@ -155,8 +155,8 @@ module _ (count : Node → ℕ) (lives : Node → Bool) (h : ℕ) where
     inside = λ p. omega (arith, join-le count lives p h 0 []);
   }
 
-  pub ready-leaf : (q : ℕ) (ms : List Node) → Ready count lives h (node zero q ∷ ms) → Ready count lives h ms
-  ready-leaf q ms r = record {
+  pub ready-name : (q : ℕ) (ms : List Node) → Ready count lives h (node zero q ∷ ms) → Ready count lives h ms
+  ready-name q ms r = record {
     alive = every-tail lives (node zero q) ms (r .alive);
     sorted = r .sorted .1;
     inside = λ p. omega (arith, r .inside p);
@@ -168,7 +168,7 @@ module _ (count : Node → ℕ) (lives : Node → Bool) (h : ℕ) where
   pub ready-open : (l q : ℕ) (ms : List Node) → Ready count lives h (node (suc l) q ∷ ms) → Ready count lives h (halves count lives l q ms)
   ready-open l q ms r = record {
     alive = join-alive count lives (node l (2 * q)) (join count lives (node l (2 * q + 1)) ms)
-    (join-alive count lives (node l (2 * q + 1)) ms (every-tail lives (node (suc l) q) ms (r .alive)));
+        (join-alive count lives (node l (2 * q + 1)) ms (every-tail lives (node (suc l) q) ms (r .alive)));
     sorted = halves-sorted count lives l q ms (r .sorted .1) (ready-apart (node (suc l) q ∷ ms) r);
     inside = λ p. omega (arith, halves-le count lives p l q ms, r .inside p);
   }

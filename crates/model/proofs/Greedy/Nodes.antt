@@ -1,7 +1,7 @@
 -- The nodes under a node, their leaves, and the order of the nodes by larger count, then place.
-use Prim.Native.Nat.{ℕ, zero, suc, _+_, _*_, _^_, _≤_, _<_}
+use Prim.Native.Nat.{ℕ, zero, suc, _+_, _-_, _*_, _^_, _≤_, _<_}
 use native.Mathlib.Omega.{arith}
-use native.Mathlib.Nat.{pow-suc, mul-one}
+use native.Mathlib.Nat.{pow-suc, mul-one, zero-mul, zero-add, add-sub-of-le}
 use mathlib.Core.Path.{_≡_, refl, sym, ap, ap₂, _∙_}
 use mathlib.Core.Logic.{_⊎_, inl, inr}
 use mathlib.Core.List.{List, [], _∷_, _++_}
@@ -9,9 +9,9 @@ use mathlib.Core.Bool.{Bool, true, false, _&&_, _||_, true≢false}
 use lib.ListN.{length, length-append}
 use lib.Dec.{eqb}
 use borrow.Author.Tests.{eqb-true, eq-eqb, ne-eqb}
-use Rattle.bit_rows.specs.Sequences.{bit, tally, upFrom}
+use Rattle.bit_rows.specs.Sequences.{bit, tally, upFrom, below}
 use Rattle.bit_rows.proofs.Tests.{look, or-cases, or-neither}
-use Rattle.bit_rows.proofs.Tally.{tally-append, upFrom-append}
+use Rattle.bit_rows.proofs.Tally.{tally-append, tally-same, upFrom-append}
 use Rattle.model.specs.TopK.{Node, node, start}
 use Rattle.model.proofs.Sorting.{Every, every-head, every-tail, every-cons, every-append}
 use Rattle.model.proofs.Priority.{aheadOf, ahead-true, true-ahead, ahead-trans, ahead-of-le}
@@ -187,3 +187,34 @@ module _ (count : Node → ℕ) (lives : Node → Bool) (counted : Counted count
           → 1 ≤ tally p (nodes (suc l) q)
       go (inl f) i j = omega (arith, i f, tally-append p (nodes l (2 * q)) (nodes l (2 * q + 1)))
       go (inr f) i j = omega (arith, j f, tally-append p (nodes l (2 * q)) (nodes l (2 * q + 1)))
+
+-- ---- the documents of a tree, where of the numbers below 2 ^ h only those below N live
+
+module _ (lives : Node → Bool) (h N : ℕ) (fits : N ≤ 2 ^ h) (outside : (d : ℕ) → N ≤ d → d < 2 ^ h → lives (node zero d) ≡ false) where
+  pub living-documents : (p : ℕ → Bool) → tally (living lives (leafly p)) (nodes h 0) ≡ tally (λ d. lives (node zero d) && p d) (below N)
+  living-documents p =
+      tally-same (living lives (leafly p)) (leafly shown) leaf-shown (nodes h 0)
+      ∙ sym (tally-documents shown (nodes h 0))
+      ∙ ap (tally shown) (documents-nodes h 0 ∙ split)
+      ∙ tally-append shown (below N) (upFrom N (2 ^ h - N))
+      ∙ omega (arith, past N (2 ^ h - N) (omega arith) (omega arith))
+    where
+      shown : ℕ → Bool
+      shown d = lives (node zero d) && p d
+
+      none : (b : Bool) → (b && false) ≡ false
+      none true = refl
+      none false = refl
+
+      leaf-shown : (n : Node) → living lives (leafly p) n ≡ leafly shown n
+      leaf-shown (node zero d) = refl
+      leaf-shown (node (suc l) q) = none (lives (node (suc l) q))
+
+      split : upFrom (0 * 2 ^ h) (2 ^ h) ≡ below N ++ upFrom N (2 ^ h - N)
+      split =
+          ap₂ upFrom (zero-mul (2 ^ h)) (sym (add-sub-of-le fits)) ∙ upFrom-append 0 N (2 ^ h - N)
+          ∙ ap (λ (s : ℕ). below N ++ upFrom s (2 ^ h - N)) (zero-add N)
+
+      past : (s n : ℕ) → N ≤ s → s + n ≤ 2 ^ h → tally shown (upFrom s n) ≡ 0
+      past s zero l u = refl
+      past s (suc n) l u = rw (outside s l (omega arith)) (omega (arith, past (suc s) n (omega arith) (omega arith)))

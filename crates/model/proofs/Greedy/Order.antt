@@ -17,7 +17,7 @@ use Rattle.model.proofs.Sorting.{Sorted, sorted-unique}
 use Rattle.model.proofs.Priority.{Ahead, ahead-true, true-ahead}
 use Rattle.model.proofs.Ranking.{aheadPair, pair-refl, pair-antisymm, ranking-sorted, ranking-same}
 use Rattle.model.proofs.Greedy.Abstract.{Counted, leafPair, rankingOf, needBy, needFor}
-use Rattle.model.proofs.Greedy.Nodes.{nodes, length-nodes, living, leafly, documents, tally-documents, documents-nodes, place, aheadNode}
+use Rattle.model.proofs.Greedy.Nodes.{nodes, length-nodes, living, leafly, documents, tally-documents, living-documents, place, aheadNode}
 use Rattle.model.proofs.Greedy.Frontier.{join, ready-root, join-living}
 use Rattle.model.proofs.Greedy.Visits.{visits, size, Ends, visits-same, visits-sorted, visits-ends}
 use Rattle.model.proofs.Greedy.Moves.{tollOf, pairsIn}
@@ -84,52 +84,19 @@ module _ (count : Node → ℕ) (lives : Node → Bool) (counted : Counted count
   -- ---- the documents are the ranking, where only numbers below N live
 
   module _ (N : ℕ) (fits : N ≤ 2 ^ h) (outside : (d : ℕ) → N ≤ d → d < 2 ^ h → lives (node zero d) ≡ false) where
-    module _ (p : Pair → Bool) where
-      -- a document that lives and passes
-      shown : ℕ → Bool
-      shown d = lives (node zero d) && p (leafPair count d)
-
-      past : (s n : ℕ) → N ≤ s → s + n ≤ 2 ^ h → tally shown (upFrom s n) ≡ 0
-      unfolding shown
-      past s zero l u = refl
-      past s (suc n) l u = rw (outside s l (omega arith)) (omega (arith, past (suc s) n (omega arith) (omega arith)))
-
-      living-shown : (n : Node) → living lives (leafly (λ d. p (leafPair count d))) n ≡ leafly shown n
-      unfolding shown
-      living-shown (node zero d) = refl
-      living-shown (node (suc l) q) = none (lives (node (suc l) q))
-        where
-          none : (b : Bool) → (b && false) ≡ false
-          none true = refl
-          none false = refl
-
-      split : upFrom (0 * 2 ^ h) (2 ^ h) ≡ below N ++ upFrom N (2 ^ h - N)
-      split =
-          ap₂ upFrom (zero-mul (2 ^ h)) (sym (add-sub-of-le fits)) ∙ upFrom-append 0 N (2 ^ h - N)
-          ∙ ap (λ (s : ℕ). below N ++ upFrom s (2 ^ h - N)) (zero-add N)
-
-      order-documents : tally p (pairsIn count (order count lives h f)) ≡ tally shown (below N)
-      order-documents =
-          tally-map p (leafPair count) (documents (order count lives h f))
-          ∙ tally-documents (λ d. p (leafPair count d)) (order count lives h f)
-          ∙ order-same (leafly (λ d. p (leafPair count d)))
-          ∙ tally-same (living lives (leafly (λ d. p (leafPair count d)))) (leafly shown) living-shown (nodes h 0)
-          ∙ sym (tally-documents shown (nodes h 0))
-          ∙ ap (tally shown) (documents-nodes h 0 ∙ split)
-          ∙ tally-append shown (below N) (upFrom N (2 ^ h - N))
-          ∙ omega (arith, past N (2 ^ h - N) (omega arith) (omega arith))
-
-      ranking-documents : tally p (rankingOf count lives N) ≡ tally shown (below N)
-      unfolding shown
-      ranking-documents =
-          let alive : ℕ → Bool = λ d. lives (node zero d) in
-          ranking-same (map (leafPair count) (keep alive (below N))) p
-          ∙ tally-map p (leafPair count) (keep alive (below N))
-          ∙ tally-keep (λ d. p (leafPair count d)) alive (below N)
+    order-documents : (p : Pair → Bool) → tally p (pairsIn count (order count lives h f)) ≡ tally p (rankingOf count lives N)
+    order-documents p =
+        let alive : ℕ → Bool = λ d. lives (node zero d) in
+        let passes : ℕ → Bool = λ d. p (leafPair count d) in
+        tally-map p (leafPair count) (documents (order count lives h f))
+        ∙ tally-documents passes (order count lives h f)
+        ∙ order-same (leafly passes)
+        ∙ living-documents lives h N fits outside passes
+        ∙ sym (ranking-same (map (leafPair count) (keep alive (below N))) p ∙ tally-map p (leafPair count) (keep alive (below N))
+        ∙ tally-keep passes alive (below N))
 
     pub order-ranking : pairsIn count (order count lives h f) ≡ rankingOf count lives N
     order-ranking =
         sorted-unique aheadPair pair-refl pair-antisymm (pairsIn count (order count lives h f)) (rankingOf count lives N)
         (pairs-sorted count (order count lives h f) order-sorted)
-        (ranking-sorted (map (leafPair count) (keep (λ d. lives (node zero d)) (below N))))
-        (λ p. order-documents p ∙ sym (ranking-documents p))
+        (ranking-sorted (map (leafPair count) (keep (λ d. lives (node zero d)) (below N)))) order-documents

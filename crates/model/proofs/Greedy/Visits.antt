@@ -13,7 +13,7 @@ use Rattle.model.proofs.Sorting.{Every, every-head, Sorted}
 use Rattle.model.proofs.Priority.{true-ahead, ahead-refl}
 use Rattle.model.proofs.Greedy.Abstract.{Counted}
 use Rattle.model.proofs.Greedy.Nodes.{nodes, allUnder, living, leafly, documents, tally-documents, place, aheadNode, ahead-under, ahead-all-under, leaf-under}
-use Rattle.model.proofs.Greedy.Frontier.{halves, halves-le, Ready, ready-leaf, ready-open, living-leaf, living-open}
+use Rattle.model.proofs.Greedy.Frontier.{halves, halves-le, Ready, ready-name, ready-open, living-leaf, living-open}
 
 abbrev pub visits : (Node → ℕ) → (Node → Bool) → ℕ → List Node → List Node
 visits count lives zero ms = []
@@ -40,7 +40,7 @@ module _ (count : Node → ℕ) (lives : Node → Bool) (counted : Counted count
   visits-same (suc f) (node zero q ∷ ms) r w p =
       let e = every-head lives (node zero q) ms (r .alive) in
       let s = living-leaf lives (λ n. true) q ms e in
-      omega (arith, living-leaf lives p q ms e, visits-same f ms (ready-leaf count lives h q ms r) (omega arith) p)
+      omega (arith, living-leaf lives p q ms e, visits-same f ms (ready-name count lives h q ms r) (omega arith) p)
   visits-same (suc f) (node (suc l) q ∷ ms) r w p =
       let e = every-head lives (node (suc l) q) ms (r .alive) in
       let s = living-open count lives counted (λ n. true) l q ms e in
@@ -61,7 +61,7 @@ module _ (count : Node → ℕ) (lives : Node → Bool) (counted : Counted count
   visits-sorted (suc f) (node zero q ∷ ms) r w =
       let n = node zero q in
       let s = living-leaf lives (λ n. true) q ms (every-head lives n ms (r .alive)) in
-      let r' = ready-leaf count lives h q ms r in
+      let r' = ready-name count lives h q ms r in
       let w' : size lives ms ≤ f = omega arith in (
         every-visit f ms r' w' (aheadNode count n) (ahead-all-under count lives counted n ms (r .sorted .0)),
         visits-sorted f ms r' w',
@@ -74,7 +74,7 @@ module _ (count : Node → ℕ) (lives : Node → Bool) (counted : Counted count
       let a = ahead-under count lives counted n (suc l) q (true-ahead (count n) (place n) (count n) (place n) (ahead-refl (count n) (place n))) in
       let b = ahead-all-under count lives counted n ms (r .sorted .0) in
       let c : Every (aheadNode count n) (allUnder (halves count lives l q ms)) =
-        omega (arith, halves-le count lives (λ m. not (aheadNode count n m)) l q ms, tally-append (λ m. not (aheadNode count n m)) (nodes (suc l) q) (allUnder ms)) in (
+      omega (arith, halves-le count lives (λ m. not (aheadNode count n m)) l q ms, tally-append (λ m. not (aheadNode count n m)) (nodes (suc l) q) (allUnder ms)) in (
         every-visit f (halves count lives l q ms) r' w' (aheadNode count n) c,
         visits-sorted f (halves count lives l q ms) r' w',
       )
@@ -84,7 +84,7 @@ module _ (count : Node → ℕ) (lives : Node → Bool) (counted : Counted count
   visits-ends (suc f) [] r w = tt
   visits-ends (suc f) (node zero q ∷ ms) r w =
       let s = living-leaf lives (λ n. true) q ms (every-head lives (node zero q) ms (r .alive)) in
-      visits-ends f ms (ready-leaf count lives h q ms r) (omega arith)
+      visits-ends f ms (ready-name count lives h q ms r) (omega arith)
   visits-ends (suc f) (node (suc l) q ∷ ms) r w =
       let e = every-head lives (node (suc l) q) ms (r .alive) in
       let s = living-open count lives counted (λ n. true) l q ms e in
