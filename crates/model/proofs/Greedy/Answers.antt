@@ -4,15 +4,15 @@ use native.Mathlib.Omega.{arith}
 use native.Mathlib.Nat.{le-refl}
 use mathlib.Core.Path.{_≡_, refl, sym, ap, _∙_}
 use mathlib.Core.Logic.{_⊎_, inl, inr}
-use mathlib.Core.List.{List, [], _∷_}
+use mathlib.Core.List.{List}
 use mathlib.Core.Bool.{Bool, true, false, cond}
 use lib.ListN.{length, take, length-take}
 use lib.Seq.{take-length}
 use lib.Dec.{leb}
-use borrow.Author.Tests.{leb-true, leb-false, le-leb}
+use borrow.Author.Tests.{leb-true, le-leb}
 use Rattle.bit_rows.proofs.Tests.{look}
 use Rattle.model.specs.Queries.{Pair}
-use Rattle.model.specs.TopK.{Answer, done, spent, pairsOf}
+use Rattle.model.specs.TopK.{pairsOf}
 use Rattle.model.proofs.Greedy.Abstract.{coveredBy, answerBy}
 
 -- needs that agree on the front parts

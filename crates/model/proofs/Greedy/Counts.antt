@@ -1,5 +1,5 @@
 -- The count of entries: it adds up from the halves of a node, and the abstract answer for it is `topK`.
-use Prim.Native.Nat.{ℕ, zero, suc, _+_, _*_, _/_, _^_, _≤_, _<_}
+use Prim.Native.Nat.{ℕ, zero, suc, _+_, _*_, _/_, _^_, _≤_}
 use native.Mathlib.Omega.{arith}
 use native.Mathlib.Nat.{pow-suc, div-div-eq-div-mul, div-one, div-eq-of-lt}
 use mathlib.Core.Path.{_≡_, refl, sym, ap, ap₂, _∙_, fun-ext}
@@ -9,17 +9,17 @@ use mathlib.Core.Bool.{Bool, true, false, not, cond, _&&_, _||_}
 use lib.ListN.{length, take}
 use lib.Dec.{ltb, leb, eqb}
 use borrow.Author.Tests.{ltb-true, ltb-false, lt-ltb, le-ltb, eqb-true, eqb-false, eq-eqb, ne-eqb}
-use Rattle.bit_rows.specs.Sequences.{bit, tally, below, occurrences}
-use Rattle.bit_rows.proofs.Tests.{look, or-neither, or-left, or-right, eqb-swap}
+use Rattle.bit_rows.specs.Sequences.{bit, below, occurrences}
+use Rattle.bit_rows.proofs.Tests.{look, eqb-swap}
 use Rattle.bit_rows.proofs.Tally.{tally-same, tally-sum, tally-none}
 use Rattle.model.specs.Lists.{keep, Within}
 use Rattle.model.specs.Queries.{Pair, pairOf, present, listing}
-use Rattle.model.specs.TopK.{Node, node, start, countIn, innerNodes, ranking, fullList, needed, needOf, last, need, covered, done, spent, topK}
-use Rattle.model.specs.Search.{Waiting, begin, occupied, wait}
+use Rattle.model.specs.TopK.{Node, node, countIn, innerNodes, ranking, fullList, needed, needOf, last, need, covered, done, spent, topK}
+use Rattle.model.specs.Search.{begin, occupied, wait}
 use Rattle.model.proofs.Lists.{keep-map, tally-keep, tally-within}
-use Rattle.model.proofs.Sorting.{Every, every-take, every-cons}
+use Rattle.model.proofs.Sorting.{Every, every-take}
 use Rattle.model.proofs.Ranking.{ranking-same, every-last}
-use Rattle.model.proofs.Greedy.Abstract.{Counted, needBy, coveredBy, answerBy, waiting, leafPair, rankingOf, neededFor, needFor, topKOf}
+use Rattle.model.proofs.Greedy.Abstract.{Counted, needBy, coveredBy, answerBy, rankingOf, neededFor, needFor, topKOf}
 use Rattle.model.proofs.Greedy.Answers.{answerBy-same}
 
 -- ---- counts
@@ -45,7 +45,7 @@ pub count-leaf : (xs : List ℕ) (d : ℕ) → countIn xs (node zero d) ≡ occu
 count-leaf xs d =
     tally-same (λ v. eqb (v / 2 ^ 0) d) (eqb d) (λ v. ap (λ (w : ℕ). eqb w d) (div-one v) ∙ eqb-swap v d) xs
 
-pub occupied-halves : (xs : List ℕ) (l q : ℕ)
+occupied-halves : (xs : List ℕ) (l q : ℕ)
     → occupied xs (node (suc l) q) ≡ (occupied xs (node l (2 * q)) || occupied xs (node l (2 * q + 1)))
 occupied-halves xs l q = go (look (occupied xs (node l (2 * q)))) (look (occupied xs (node l (2 * q + 1))))
   where

@@ -12,7 +12,7 @@ use Rattle.bit_rows.proofs.Tests.{look}
 use Rattle.bit_rows.proofs.Tally.{tally-append, tally-same}
 use Rattle.model.specs.TopK.{Node, node, start}
 use Rattle.model.specs.Search.{prior}
-use Rattle.model.proofs.Sorting.{Every, every-head, every-tail, every-cons, Sorted, insertBy, insert-same, insert-sorted}
+use Rattle.model.proofs.Sorting.{Every, every-tail, every-cons, Sorted, insertBy, insert-same, insert-sorted}
 use Rattle.model.proofs.Priority.{Ahead, true-ahead, prior-true, prior-false}
 use Rattle.model.proofs.Greedy.Abstract.{Counted, waiting}
 use Rattle.model.proofs.Greedy.Nodes.{nodes, under, allUnder, living, leafly, leaf-once, first-leaf, place, start-le-place, place-le-start, aheadNode, node-trans, dead-under}

@@ -1,5 +1,5 @@
 -- The moves of the search follow the visited nodes, and what the answer read off them comes to.
-use Prim.Native.Nat.{ℕ, zero, suc, _+_, _-_, _*_, _≤_, _<_}
+use Prim.Native.Nat.{ℕ, zero, suc, _+_, _*_, _≤_, _<_}
 use native.Mathlib.Omega.{arith}
 use native.Mathlib.Nat.{zero-add, sub-zero, suc-sub-suc}
 use mathlib.Core.Path.{_≡_, refl, sym, ap, _∙_}
@@ -11,7 +11,7 @@ use Rattle.bit_rows.specs.Sequences.{tally}
 use Rattle.model.specs.Lists.{any}
 use Rattle.model.specs.Queries.{Pair}
 use Rattle.model.specs.TopK.{Node, node, Answer, done, spent}
-use Rattle.model.specs.Search.{Waiting, prior, insertWaiting, Move, names, opens, findsSpent, isOpening, isSpent, namedIn, answerOf, wait, waitHalves, movesFrom}
+use Rattle.model.specs.Search.{Waiting, insertWaiting, Move, names, opens, findsSpent, isOpening, isSpent, namedIn, answerOf, wait, waitHalves, movesFrom}
 use Rattle.model.proofs.Sorting.{insertBy}
 use Rattle.model.proofs.Greedy.Abstract.{waiting, leafPair, coveredBy, answerBy}
 use Rattle.model.proofs.Greedy.Nodes.{documents}

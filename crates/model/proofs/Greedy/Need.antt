@@ -1,13 +1,13 @@
 -- The inner nodes before a leaf, in sorted order, are those that its document needs.
-use Prim.Native.Nat.{ℕ, zero, suc, _+_, _-_, _*_, _^_, _≤_, _<_}
+use Prim.Native.Nat.{ℕ, zero, suc, _+_, _-_, _*_, _^_}
 use native.Mathlib.Omega.{arith}
 use native.Mathlib.Nat.{sub-zero, suc-sub-suc, pow-suc, mul-one, zero-mul}
 use mathlib.Core.Path.{_≡_, refl, sym, ap, ap₂, _∙_, fun-ext}
 use mathlib.Core.Logic.{_⊎_, inl, inr}
 use mathlib.Core.List.{List, [], _∷_, _++_, map}
 use mathlib.Core.Bool.{Bool, true, false, not, _&&_, _||_, true≢false}
-use lib.ListN.{length, take}
-use lib.Dec.{leb, ltb, eqb}
+use lib.ListN.{take}
+use lib.Dec.{leb, ltb}
 use Rattle.bit_rows.specs.Sequences.{bit, tally, upFrom, below}
 use Rattle.bit_rows.specs.Bits.{concat}
 use Rattle.bit_rows.proofs.Tests.{look, eqb-swap}
@@ -19,8 +19,8 @@ use Rattle.model.proofs.Sorting.{Every, every-head, every-tail, every-c
 use Rattle.model.proofs.Priority.{aheadOf, Ahead, ahead-true, true-ahead}
 use Rattle.model.proofs.Ranking.{every-last}
 use Rattle.model.proofs.Greedy.Abstract.{leafPair, needBy, neededFor, needFor}
-use Rattle.model.proofs.Greedy.Nodes.{nodes, living, documents, place, aheadNode}
-use Rattle.model.proofs.Greedy.Moves.{toll, tollOf, pairsIn}
+use Rattle.model.proofs.Greedy.Nodes.{nodes, living, place, aheadNode}
+use Rattle.model.proofs.Greedy.Moves.{tollOf, pairsIn}
 
 -- ---- the inner nodes, level by level
 
@@ -78,7 +78,7 @@ tally-inner p (suc l) q =
       tally-inner p l (2 * q + 1),
     )
 
-pub tally-innerNodes : (p : Node → Bool) (h : ℕ) → tally p (innerNodes h) ≡ tally (innerly p) (nodes h 0)
+tally-innerNodes : (p : Node → Bool) (h : ℕ) → tally p (innerNodes h) ≡ tally (innerly p) (nodes h 0)
 tally-innerNodes p h =
     ap (λ (f : ℕ → List Node). tally p (concat (map f (below h))))
     (fun-ext (λ (j : ℕ). ap (λ (s : ℕ). map (node (h - j)) (upFrom s (2 ^ j))) (sym (zero-mul (2 ^ j)))))

@@ -5,7 +5,7 @@ use native.Mathlib.Nat.{pow-suc, mul-one, zero-mul, zero-add, add-sub-of-le}
 use mathlib.Core.Path.{_≡_, refl, sym, ap, ap₂, _∙_}
 use mathlib.Core.Logic.{_⊎_, inl, inr}
 use mathlib.Core.List.{List, [], _∷_, _++_}
-use mathlib.Core.Bool.{Bool, true, false, _&&_, _||_, true≢false}
+use mathlib.Core.Bool.{Bool, true, false, _&&_}
 use lib.ListN.{length, length-append}
 use lib.Dec.{eqb}
 use borrow.Author.Tests.{eqb-true, eq-eqb, ne-eqb}
@@ -64,7 +64,7 @@ documents-append (node zero q ∷ ms) ns = ap (λ (r : List ℕ). q ∷ r) (docu
 documents-append (node (suc l) q ∷ ms) ns = documents-append ms ns
 
 -- the leaves under a node, from the left
-pub documents-nodes : (l q : ℕ) → documents (nodes l q) ≡ upFrom (q * 2 ^ l) (2 ^ l)
+documents-nodes : (l q : ℕ) → documents (nodes l q) ≡ upFrom (q * 2 ^ l) (2 ^ l)
 documents-nodes zero q = rw (mul-one q)
 documents-nodes (suc l) q =
     documents-append (nodes l (2 * q)) (nodes l (2 * q + 1))

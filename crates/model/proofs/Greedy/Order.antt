@@ -1,14 +1,13 @@
 -- All nodes of a tree that live, in the order of the search: their documents are the ranking, and the inner nodes before each are its need.
-use Prim.Native.Nat.{ℕ, zero, suc, _+_, _-_, _*_, _^_, _≤_, _<_}
+use Prim.Native.Nat.{ℕ, zero, suc, _+_, _^_, _≤_, _<_}
 use native.Mathlib.Omega.{arith}
-use native.Mathlib.Nat.{add-sub-of-le, zero-mul, zero-add}
-use mathlib.Core.Path.{_≡_, refl, sym, ap, ap₂, _∙_, fun-ext}
-use mathlib.Core.Logic.{_⊎_, inl, inr}
-use mathlib.Core.List.{List, [], _∷_, _++_, map}
-use mathlib.Core.Bool.{Bool, true, false, _&&_}
-use lib.ListN.{length, take}
-use Rattle.bit_rows.specs.Sequences.{tally, upFrom, below}
-use Rattle.bit_rows.proofs.Tally.{tally-append, tally-same, tally-map, tally-le-length, upFrom-append}
+use mathlib.Core.Path.{_≡_, sym, ap, _∙_, fun-ext}
+use mathlib.Core.Logic.{inl, inr}
+use mathlib.Core.List.{List, [], _∷_, map}
+use mathlib.Core.Bool.{Bool, true, false}
+use lib.ListN.{take}
+use Rattle.bit_rows.specs.Sequences.{tally, below}
+use Rattle.bit_rows.proofs.Tally.{tally-map, tally-le-length}
 use Rattle.model.specs.Lists.{keep}
 use Rattle.model.specs.Queries.{Pair}
 use Rattle.model.specs.TopK.{Node, node}

@@ -2,7 +2,7 @@
 use Prim.Native.Nat.{ℕ, zero, suc, _+_, _^_, _≤_, _<_}
 use native.Mathlib.Omega.{arith}
 use mathlib.Core.Path.{_≡_, refl, sym, ap, _∙_}
-use mathlib.Core.List.{List, [], _∷_, map}
+use mathlib.Core.List.{List, []}
 use mathlib.Core.Bool.{Bool, true, false, not, cond}
 use lib.ListN.{length, take, length-take}
 use lib.Seq.{take-take}
@@ -11,9 +11,9 @@ use Rattle.bit_rows.specs.Sequences.{tally}
 use Rattle.model.specs.Lists.{any, Within}
 use Rattle.model.specs.Queries.{Pair}
 use Rattle.model.specs.TopK.{Node, node, countIn, fullList, need, covered, Answer, done, spent, topK, pairsOf}
-use Rattle.model.specs.Search.{Waiting, Move, isOpening, isSpent, namedIn, answerOf, wait, movesFrom, begin, occupied, searchMoves}
+use Rattle.model.specs.Search.{Waiting, Move, isOpening, isSpent, namedIn, answerOf, wait, movesFrom, occupied, searchMoves}
 use Rattle.model.proofs.Lists.{within-le}
-use Rattle.model.proofs.Greedy.Abstract.{Counted, waiting, needBy, answerBy, needFor, topKOf}
+use Rattle.model.proofs.Greedy.Abstract.{Counted, needBy, answerBy, needFor, topKOf}
 use Rattle.model.proofs.Greedy.Moves.{wait-join, moves-visits, answer-moves, tollOf, pairsIn}
 use Rattle.model.proofs.Greedy.Order.{root, order, order-ends, order-need, order-ranking}
 use Rattle.model.proofs.Greedy.Answers.{answerBy-same, answerBy-mono}
