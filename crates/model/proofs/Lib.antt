@@ -3,3 +3,7 @@ pub mod Lists
 pub mod Height
 pub mod Wavelet
 pub mod Format
+pub mod Sorting
+pub mod Priority
+pub mod Ranking
+pub mod Greedy

@@ -43,6 +43,15 @@ module _ {A : Type 0} where
       go true ih = ap (λ (r : List A). x ∷ r) ih
       go false ih = ih
 
+  pub keep-map : {B : Type 0} (p : B → Bool) (f : A → B) (xs : List A) → keep p (map f xs) ≡ map f (keep (λ x. p (f x)) xs)
+  keep-map {B} p f [] = refl
+  keep-map {B} p f (x ∷ xs) = go (p (f x)) (keep-map p f xs)
+    where
+      go : (b : Bool) → keep p (map f xs) ≡ map f (keep (λ y. p (f y)) xs)
+          → cond b (f x ∷ keep p (map f xs)) (keep p (map f xs)) ≡ map f (cond b (x ∷ keep (λ y. p (f y)) xs) (keep (λ y. p (f y)) xs))
+      go true ih = ap (λ (r : List B). f x ∷ r) ih
+      go false ih = ih
+
   pub length-keep : (p : A → Bool) (xs : List A) → length (keep p xs) ≡ tally p xs
   length-keep p [] = refl
   length-keep p (x ∷ xs) = go (p x) (length-keep p xs)

@@ -1,0 +1,12 @@
+-- The greedy search gives the top-k answer: told over any count that never rises from a node to its halves, and then for the count of entries.
+pub mod Abstract
+pub mod Nodes
+pub mod Frontier
+pub mod Visits
+pub mod Moves
+pub mod Need
+pub mod Order
+pub mod Answers
+pub mod Counts
+pub mod Theorem
+pub mod Waits

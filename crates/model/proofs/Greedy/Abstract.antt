@@ -1,0 +1,57 @@
+-- The top-k answer over any count of nodes and any test for the nodes that live, in the shape of specs/TopK; what the search asks of both.
+use Prim.Native.Nat.{ℕ, zero, suc, _+_, _*_, _≤_}
+use mathlib.Core.Path.{_≡_}
+use mathlib.Core.List.{List, [], _∷_, map}
+use mathlib.Core.Bool.{Bool, cond, _&&_, _||_}
+use lib.ListN.{length, take}
+use lib.Dec.{leb, ltb, eqb}
+use Rattle.bit_rows.specs.Sequences.{tally, below}
+use Rattle.model.specs.Lists.{keep}
+use Rattle.model.specs.Queries.{Pair}
+use Rattle.model.specs.TopK.{Node, node, start, innerNodes, ranking, last, Answer, done, spent}
+use Rattle.model.specs.Search.{Waiting}
+
+-- the count never rises from a node to its halves; a node lives exactly where a half of it does. A node may live with count 0
+pub record Counted (count : Node → ℕ) (lives : Node → Bool) : Type 0 where
+  pub lower-le : (l q : ℕ) → count (node l (2 * q)) ≤ count (node (suc l) q)
+  pub upper-le : (l q : ℕ) → count (node l (2 * q + 1)) ≤ count (node (suc l) q)
+  pub lives-halves : (l q : ℕ) → lives (node (suc l) q) ≡ (lives (node l (2 * q)) || lives (node l (2 * q + 1)))
+
+-- the need of a front part, by its last pair; without pairs it is 0
+abbrev pub needBy : (Pair → ℕ) → List Pair → ℕ
+needBy f [] = 0
+needBy f (p ∷ ps) = f (last p ps)
+
+module _ (need : List Pair → ℕ) (allowance : ℕ) (full : List Pair) where
+  -- the longest front part, of at most m pairs, whose need the allowance covers
+  abbrev pub coveredBy : ℕ → List Pair
+  coveredBy zero = []
+  coveredBy (suc m) = let shorter = coveredBy m in cond (leb (need (take (suc m) full)) allowance) (take (suc m) full) shorter
+
+  -- the whole list if the allowance covers its need, else the longest front part that it covers
+  abbrev pub answerBy : Answer
+  answerBy = cond (leb (need full) allowance) (done full (need full)) (spent (coveredBy (length full)) allowance)
+
+-- a node waits with its count
+abbrev pub waiting : (Node → ℕ) → Node → Waiting
+waiting count n = record { block = n; count = count n }
+
+-- a document with the count of its leaf
+abbrev pub leafPair : (Node → ℕ) → ℕ → Pair
+leafPair count d = record { document = d; count = count (node zero d) }
+
+module _ (count : Node → ℕ) (lives : Node → Bool) where
+  -- the documents below N whose leaf lives, by larger count and then lower number
+  abbrev pub rankingOf : ℕ → List Pair
+  rankingOf N = ranking (map (leafPair count) (keep (λ d. lives (node zero d)) (below N)))
+
+  -- the node lives, and its count is above that of the pair, or equal to it with a start not above the pair's document
+  abbrev pub neededFor : Pair → Node → Bool
+  neededFor p n = lives n && (ltb (p .count) (count n) || eqb (count n) (p .count) && leb (start n) (p .document))
+
+  -- the number of such nodes of two or more numbers
+  abbrev pub needFor : ℕ → Pair → ℕ
+  needFor h p = tally (neededFor p) (innerNodes h)
+
+  abbrev pub topKOf : ℕ → ℕ → ℕ → ℕ → Answer
+  topKOf h N k allowance = answerBy (needBy (needFor h)) allowance (take k (rankingOf N))
