@@ -10,9 +10,10 @@ use Rattle.bit_rows.specs.Bits.{bitAt, bitsOf, rowBytes, sampleCount}
 use Rattle.bit_rows.specs.Rows.{Sized, Sampled}
 use Rattle.bit_rows.proofs.Bits.{length-bitsOf, getD-bitsOf, bitAt-lt}
 use Rattle.model.specs.Lists.{Within}
-use Rattle.model.specs.Rows.{row}
+use Rattle.model.specs.Rows.{decode}
 use Rattle.model.proofs.Lists.{within-of}
-use Rattle.model.proofs.Wavelet.Decode.{Decoded, decoded}
+use Rattle.model.proofs.Wavelet.Rows.{RowsOf}
+use Rattle.model.proofs.Wavelet.Decode.{decoded}
 use Rattle.wavelet.specs.declared.Levels.{Levels}
 use Rattle.wavelet.specs.Levels.{samplesIn, rowIn, entriesIn, levelOf, Stored}
 
@@ -72,7 +73,7 @@ within-bitsOf : (n : ℕ) (row : List ℕ) → Within 2 (bitsOf n row)
 within-bitsOf n row = within-of 2 (bitsOf n row) (λ i l. rw (getD-bitsOf n row i (rw (length-bitsOf n row) at l)) (bitAt-lt row i))
 
 module _ (bytes : List ℕ) (t : Levels) where
-  entries-decoded : Decoded (t .height) (t .entries) (λ j. bitsOf (t .entries) (rowIn bytes t j))
+  entries-decoded : RowsOf (t .height) (t .entries) (decode (t .height) (t .entries) (λ j. bitsOf (t .entries) (rowIn bytes t j))) (λ j. bitsOf (t .entries) (rowIn bytes t j))
   entries-decoded =
       decoded (t .height) (t .entries) (λ j. bitsOf (t .entries) (rowIn bytes t j)) (λ j l. length-bitsOf (t .entries) (rowIn bytes t j))
       (λ j l. within-bitsOf (t .entries) (rowIn bytes t j))

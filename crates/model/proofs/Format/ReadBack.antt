@@ -22,7 +22,7 @@ use Rattle.model.specs.Format.{Library, Sizes, sizesOf, withinLimits, ta
 use Rattle.model.specs.Opening.{sizesAt, startAt, lengthAt, samplesAt, rowAt, entriesAt, contents, pairsHold, tableHolds, opening}
 use Rattle.model.proofs.Lists.{within-at}
 use Rattle.model.proofs.Wavelet.Rows.{row-below}
-use Rattle.model.proofs.Wavelet.Decode.{decode-same, decode-rows}
+use Rattle.model.proofs.Wavelet.Decode.{decode-of}
 use Rattle.model.proofs.Format.Valid.{Limits, Valid, of-limits, any-within}
 use Rattle.model.proofs.Format.Layout.{numbers, length-table, table-start, table-length, entries-within, row-size, length-encode, samples-at, row-at, number-at}
 
@@ -126,8 +126,7 @@ module _ (lib : Library) (v : Valid lib) where
   entries-back : entriesAt bytes s ≡ lib .entries
   unfolding entriesAt
   entries-back =
-      decode-same h (length (lib .entries)) (λ j. bitsOf (length (lib .entries)) (rowAt bytes s j)) (λ j. row h j (lib .entries)) bits-back
-      ∙ decode-rows h (lib .entries) (entries-within lib v)
+      decode-of (record { entries = entries-within lib v; size = refl; rowwise = λ j l. sym (bits-back j l) })
 
   -- ---- the whole
 

@@ -23,7 +23,8 @@ use Rattle.model.specs.Rows.{height, row, decode}
 use Rattle.model.specs.Format.{Library, Sizes, sizesOf, withinLimits, tableOffset, rowCount, samplesOffset, samplesLength, rowsOffset, rowsLength, archiveLength, pairs, header, tableFrom, encode, archiveOf}
 use Rattle.model.specs.Opening.{sizesAt, startAt, lengthAt, samplesAt, rowAt, entriesAt, contents, pairsHold, tableHolds, opening}
 use Rattle.model.proofs.Lists.{map-append, concat-append, within-of}
-use Rattle.model.proofs.Wavelet.Decode.{Decoded, decoded}
+use Rattle.model.proofs.Wavelet.Rows.{RowsOf}
+use Rattle.model.proofs.Wavelet.Decode.{decoded}
 use Rattle.model.proofs.Format.Valid.{Limits, Valid, limits-of, within-any, refuse-answered, archive-valid}
 use Rattle.model.proofs.Format.Layout.{encode-parts}
 
@@ -145,7 +146,7 @@ module _ (bytes : List ℕ) (small : (i : ℕ) → getD bytes i 0 < 256) where
 
     -- ---- the entries and the lengths
 
-    rows-decoded : Decoded h n (λ j. bitsOf n (rowAt bytes z j))
+    rows-decoded : RowsOf h n (decode h n (λ j. bitsOf n (rowAt bytes z j))) (λ j. bitsOf n (rowAt bytes z j))
     rows-decoded = decoded h n (λ j. bitsOf n (rowAt bytes z j)) (λ j l. length-bitsOf n (rowAt bytes z j)) (λ j l. bits-within n (rowAt bytes z j))
 
     entries-size : length (library .entries) ≡ n
