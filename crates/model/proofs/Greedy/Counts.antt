@@ -19,7 +19,7 @@ use Rattle.model.specs.Search.{begin, occupied, wait}
 use Rattle.model.proofs.Lists.{keep-map, tally-keep, tally-within}
 use Rattle.model.proofs.Sorting.{Every, every-take}
 use Rattle.model.proofs.Ranking.{ranking-same, every-last}
-use Rattle.model.proofs.Greedy.Abstract.{Counted, needBy, coveredBy, answerBy, rankingOf, neededFor, needFor, topKOf}
+use Rattle.model.proofs.Greedy.Abstract.{Counted, counted-of-sum, needBy, coveredBy, answerBy, rankingOf, neededFor, needFor, topKOf}
 use Rattle.model.proofs.Greedy.Answers.{answerBy-same}
 
 -- ---- counts
@@ -64,11 +64,7 @@ occupied-halves xs l q = go (look (occupied xs (node l (2 * q)))) (look (occupie
         rw (e, f) (le-ltb 0 (countIn xs (node (suc l) q)) (omega (arith, count-halves xs l q)))
 
 pub counted : (xs : List ℕ) → Counted (countIn xs) (occupied xs)
-counted xs = record {
-  lower-le = λ l q. omega (arith, count-halves xs l q);
-  upper-le = λ l q. omega (arith, count-halves xs l q);
-  lives-halves = occupied-halves xs;
-}
+counted xs = counted-of-sum (countIn xs) (occupied xs) (count-halves xs) (occupied-halves xs)
 
 -- numbers from N up do not occur
 pub outside : (N : ℕ) (xs : List ℕ) → Within N xs → (d : ℕ) → N ≤ d → occupied xs (node zero d) ≡ false
