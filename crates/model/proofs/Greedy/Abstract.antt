@@ -64,5 +64,6 @@ module _ (count : Node → ℕ) (lives : Node → Bool) where
   abbrev pub needFor : ℕ → Pair → ℕ
   needFor h p = tally (neededFor p) (innerNodes h)
 
+  -- the top-k answer: of the ranking's first k, all or the longest front part that the allowance covers
   abbrev pub topKOf : ℕ → ℕ → ℕ → ℕ → Answer
   topKOf h N k allowance = answerBy (needBy (needFor h)) allowance (take k (rankingOf N))

@@ -15,6 +15,7 @@ use Rattle.model.proofs.Greedy.Abstract.{Counted}
 use Rattle.model.proofs.Greedy.Nodes.{nodes, allUnder, living, leafly, documents, tally-documents, place, aheadNode, ahead-under, ahead-all-under, leaf-under}
 use Rattle.model.proofs.Greedy.Frontier.{halves, halves-le, Ready, ready-name, ready-open, living-leaf, living-open}
 
+-- at most f visits: each takes the first waiting node, and the halves of an inner node then wait
 abbrev pub visits : (Node → ℕ) → (Node → Bool) → ℕ → List Node → List Node
 visits count lives zero ms = []
 visits count lives (suc f) [] = []
