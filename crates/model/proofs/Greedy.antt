@@ -1,4 +1,5 @@
--- The greedy search gives the top-k answer: told over any count that never rises from a node to its halves, and then for the count of entries.
+-- The greedy search gives the top-k answer (`Theorem`): told over any count that never rises from a node to its halves (`Abstract`),
+-- and then for the count of entries. `Waits` is for code that keeps a frontier.
 pub mod Abstract
 pub mod Nodes
 pub mod Frontier

@@ -1,5 +1,6 @@
 -- The top-k answer over any count of nodes and any test for the nodes that live, in the shape of specs/TopK; what the search asks of both.
 use Prim.Native.Nat.{ℕ, zero, suc, _+_, _*_, _≤_}
+use native.Mathlib.Omega.{arith}
 use mathlib.Core.Path.{_≡_}
 use mathlib.Core.List.{List, [], _∷_, map}
 use mathlib.Core.Bool.{Bool, cond, _&&_, _||_}
@@ -16,6 +17,16 @@ pub record Counted (count : Node → ℕ) (lives : Node → Bool) : Type 0 where
   pub lower-le : (l q : ℕ) → count (node l (2 * q)) ≤ count (node (suc l) q)
   pub upper-le : (l q : ℕ) → count (node l (2 * q + 1)) ≤ count (node (suc l) q)
   pub lives-halves : (l q : ℕ) → lives (node (suc l) q) ≡ (lives (node l (2 * q)) || lives (node l (2 * q + 1)))
+
+-- as where the count is the sum of the halves' counts
+pub counted-of-sum : (count : Node → ℕ) (lives : Node → Bool)
+    → ((l q : ℕ) → count (node (suc l) q) ≡ count (node l (2 * q)) + count (node l (2 * q + 1)))
+    → ((l q : ℕ) → lives (node (suc l) q) ≡ (lives (node l (2 * q)) || lives (node l (2 * q + 1)))) → Counted count lives
+counted-of-sum count lives sum either = record {
+  lower-le = λ l q. omega (arith, sum l q);
+  upper-le = λ l q. omega (arith, sum l q);
+  lives-halves = either;
+}
 
 -- the need of a front part, by its last pair; without pairs it is 0
 abbrev pub needBy : (Pair → ℕ) → List Pair → ℕ
@@ -53,5 +64,6 @@ module _ (count : Node → ℕ) (lives : Node → Bool) where
   abbrev pub needFor : ℕ → Pair → ℕ
   needFor h p = tally (neededFor p) (innerNodes h)
 
+  -- the top-k answer: of the ranking's first k, all or the longest front part that the allowance covers
   abbrev pub topKOf : ℕ → ℕ → ℕ → ℕ → Answer
   topKOf h N k allowance = answerBy (needBy (needFor h)) allowance (take k (rankingOf N))

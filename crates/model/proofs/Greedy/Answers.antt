@@ -1,19 +1,56 @@
--- Laws of `answerBy`: which needs give the same answer, and what a larger allowance does.
+-- Laws of answers: what `answerOf` reads off moves, which needs give the same `answerBy`, and what a larger allowance does.
 use Prim.Native.Nat.{ℕ, zero, suc, _≤_}
 use native.Mathlib.Omega.{arith}
 use native.Mathlib.Nat.{le-refl}
 use mathlib.Core.Path.{_≡_, refl, sym, ap, _∙_}
 use mathlib.Core.Logic.{_⊎_, inl, inr}
 use mathlib.Core.List.{List}
-use mathlib.Core.Bool.{Bool, true, false, cond}
+use mathlib.Core.Bool.{Bool, true, false, not, cond}
 use lib.ListN.{length, take, length-take}
 use lib.Seq.{take-length}
 use lib.Dec.{leb}
 use borrow.Author.Tests.{leb-true, le-leb}
+use Rattle.bit_rows.specs.Sequences.{tally}
 use Rattle.bit_rows.proofs.Tests.{look}
+use Rattle.model.specs.Lists.{any}
 use Rattle.model.specs.Queries.{Pair}
-use Rattle.model.specs.TopK.{pairsOf}
+use Rattle.model.specs.TopK.{Answer, done, spent, pairsOf}
+use Rattle.model.specs.Search.{Move, isOpening, isSpent, namedIn, answerOf}
 use Rattle.model.proofs.Greedy.Abstract.{coveredBy, answerBy}
+
+-- ---- answers read off moves
+
+-- the openings figure of an answer
+abbrev pub figureOf : Answer → ℕ
+figureOf (done ps openings) = openings
+figureOf (spent ps openings) = openings
+
+abbrev pub isDone : Answer → Bool
+isDone (done ps openings) = true
+isDone (spent ps openings) = false
+
+pub figure-answer : (ms : List Move) → figureOf (answerOf ms) ≡ tally isOpening ms
+figure-answer ms = go (any isSpent ms)
+  where
+    go : (b : Bool) → figureOf (cond b (spent (namedIn ms) (tally isOpening ms)) (done (namedIn ms) (tally isOpening ms))) ≡ tally isOpening ms
+    go true = refl
+    go false = refl
+
+pub pairs-answer : (ms : List Move) → pairsOf (answerOf ms) ≡ namedIn ms
+pairs-answer ms = go (any isSpent ms)
+  where
+    go : (b : Bool) → pairsOf (cond b (spent (namedIn ms) (tally isOpening ms)) (done (namedIn ms) (tally isOpening ms))) ≡ namedIn ms
+    go true = refl
+    go false = refl
+
+pub done-answer : (ms : List Move) → isDone (answerOf ms) ≡ not (any isSpent ms)
+done-answer ms = go (any isSpent ms)
+  where
+    go : (b : Bool) → isDone (cond b (spent (namedIn ms) (tally isOpening ms)) (done (namedIn ms) (tally isOpening ms))) ≡ not b
+    go true = refl
+    go false = refl
+
+-- ---- answers by a need
 
 -- needs that agree on the front parts
 pub answerBy-same : (f g : List Pair → ℕ) (allowance : ℕ) (ps : List Pair) → ((m : ℕ) → m ≤ length ps → f (take m ps) ≡ g (take m ps))

@@ -15,11 +15,11 @@ use Rattle.bit_rows.proofs.Tally.{tally-same, tally-sum, tally-none}
 use Rattle.model.specs.Lists.{keep, Within}
 use Rattle.model.specs.Queries.{Pair, pairOf, present, listing}
 use Rattle.model.specs.TopK.{Node, node, countIn, innerNodes, ranking, fullList, needed, needOf, last, need, covered, done, spent, topK}
-use Rattle.model.specs.Search.{begin, occupied, wait}
+use Rattle.model.specs.Search.{Waiting, begin, occupied, wait}
 use Rattle.model.proofs.Lists.{keep-map, tally-keep, tally-within}
 use Rattle.model.proofs.Sorting.{Every, every-take}
 use Rattle.model.proofs.Ranking.{ranking-same, every-last}
-use Rattle.model.proofs.Greedy.Abstract.{Counted, needBy, coveredBy, answerBy, rankingOf, neededFor, needFor, topKOf}
+use Rattle.model.proofs.Greedy.Abstract.{Counted, counted-of-sum, needBy, coveredBy, answerBy, rankingOf, neededFor, needFor, topKOf}
 use Rattle.model.proofs.Greedy.Answers.{answerBy-same}
 
 -- ---- counts
@@ -64,11 +64,7 @@ occupied-halves xs l q = go (look (occupied xs (node l (2 * q)))) (look (occupie
         rw (e, f) (le-ltb 0 (countIn xs (node (suc l) q)) (omega (arith, count-halves xs l q)))
 
 pub counted : (xs : List ℕ) → Counted (countIn xs) (occupied xs)
-counted xs = record {
-  lower-le = λ l q. omega (arith, count-halves xs l q);
-  upper-le = λ l q. omega (arith, count-halves xs l q);
-  lives-halves = occupied-halves xs;
-}
+counted xs = counted-of-sum (countIn xs) (occupied xs) (count-halves xs) (occupied-halves xs)
 
 -- numbers from N up do not occur
 pub outside : (N : ℕ) (xs : List ℕ) → Within N xs → (d : ℕ) → N ≤ d → occupied xs (node zero d) ≡ false
@@ -81,8 +77,11 @@ outside N xs w d l = le-ltb 0 (countIn xs (node zero d)) (omega (arith, count-le
 -- the root waits with the size of the range
 pub begin-root : (h : ℕ) (xs : List ℕ) → Within (2 ^ h) xs → begin h xs ≡ wait (countIn xs) (occupied xs) (node h 0) []
 begin-root h xs w =
-    ap (λ (n : ℕ). cond (ltb 0 n) (record { block = node h 0; count = n } ∷ []) [])
+    ap (λ (n : ℕ). cond (ltb 0 n) (top n ∷ []) [])
     (sym (tally-within (λ v. eqb (v / 2 ^ h) 0) (2 ^ h) (λ v l. eq-eqb (v / 2 ^ h) 0 (div-eq-of-lt l)) xs w))
+  where
+    top : ℕ → Waiting
+    top n = record { block = node h 0; count = n }
 
 -- ---- the abstract answer
 

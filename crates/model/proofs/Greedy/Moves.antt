@@ -1,8 +1,8 @@
 -- The moves of the search follow the visited nodes, and what the answer read off them comes to.
-use Prim.Native.Nat.{ℕ, zero, suc, _+_, _*_, _≤_, _<_}
+use Prim.Native.Nat.{ℕ, zero, suc, _+_, _-_, _*_, _≤_, _<_}
 use native.Mathlib.Omega.{arith}
-use native.Mathlib.Nat.{zero-add, sub-zero, suc-sub-suc}
-use mathlib.Core.Path.{_≡_, refl, sym, ap, _∙_}
+use native.Mathlib.Nat.{zero-add}
+use mathlib.Core.Path.{_≡_, refl, sym, ap, ap₂, _∙_}
 use mathlib.Core.List.{List, [], _∷_, map}
 use mathlib.Core.Bool.{Bool, true, false, cond}
 use lib.ListN.{length, take, length-take, length-map}
@@ -68,8 +68,10 @@ module _ (count : Node → ℕ) (lives : Node → Bool) where
       ap (λ (r : List Move). names (leafPair count q) ∷ r) (moves-visits f g k left ms (omega arith) (omega arith))
   moves-visits (suc f) (suc g) (suc k) zero (node (suc l) q ∷ ms) a b = refl
   moves-visits (suc f) (suc g) (suc k) (suc left) (node (suc l) q ∷ ms) a b =
-      rw (suc-sub-suc left 0, sub-zero left, wait-halves count lives l q ms)
-      (ap (λ (r : List Move). opens (node (suc l) q) ∷ r) (moves-visits f g (suc k) left (halves count lives l q ms) (omega arith) (omega arith)))
+      let e : suc left - 1 ≡ left = omega arith in
+      ap (λ (r : List Move). opens (node (suc l) q) ∷ r)
+      (ap₂ (movesFrom count lives f (suc k)) e (wait-halves count lives l q ms)
+      ∙ moves-visits f g (suc k) left (halves count lives l q ms) (omega arith) (omega arith))
 
 -- ---- the answer read off the moves, by the first of them
 

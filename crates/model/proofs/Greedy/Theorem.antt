@@ -10,45 +10,14 @@ use lib.Dec.{leb}
 use Rattle.bit_rows.specs.Sequences.{tally}
 use Rattle.model.specs.Lists.{any, Within}
 use Rattle.model.specs.Queries.{Pair}
-use Rattle.model.specs.TopK.{Node, node, countIn, fullList, need, covered, Answer, done, spent, topK, pairsOf}
-use Rattle.model.specs.Search.{Waiting, Move, isOpening, isSpent, namedIn, answerOf, wait, movesFrom, occupied, searchMoves}
+use Rattle.model.specs.TopK.{Node, node, countIn, fullList, need, covered, done, spent, topK, pairsOf}
+use Rattle.model.specs.Search.{Waiting, isOpening, isSpent, namedIn, answerOf, wait, movesFrom, occupied, searchMoves}
 use Rattle.model.proofs.Lists.{within-le}
 use Rattle.model.proofs.Greedy.Abstract.{Counted, needBy, answerBy, needFor, topKOf}
 use Rattle.model.proofs.Greedy.Moves.{wait-join, moves-visits, answer-moves, tollOf, pairsIn}
 use Rattle.model.proofs.Greedy.Order.{root, order, order-ends, order-need, order-ranking}
-use Rattle.model.proofs.Greedy.Answers.{answerBy-same, answerBy-mono}
+use Rattle.model.proofs.Greedy.Answers.{answerBy-same, answerBy-mono, figureOf, isDone, figure-answer, pairs-answer, done-answer}
 use Rattle.model.proofs.Greedy.Counts.{counted, outside, begin-root, topK-answerBy, topKOf-topK}
-
--- the openings figure of an answer
-abbrev pub figureOf : Answer → ℕ
-figureOf (done ps openings) = openings
-figureOf (spent ps openings) = openings
-
-abbrev pub isDone : Answer → Bool
-isDone (done ps openings) = true
-isDone (spent ps openings) = false
-
--- what an answer read off moves holds
-pub figure-answer : (ms : List Move) → figureOf (answerOf ms) ≡ tally isOpening ms
-figure-answer ms = go (any isSpent ms)
-  where
-    go : (b : Bool) → figureOf (cond b (spent (namedIn ms) (tally isOpening ms)) (done (namedIn ms) (tally isOpening ms))) ≡ tally isOpening ms
-    go true = refl
-    go false = refl
-
-pub pairs-answer : (ms : List Move) → pairsOf (answerOf ms) ≡ namedIn ms
-pairs-answer ms = go (any isSpent ms)
-  where
-    go : (b : Bool) → pairsOf (cond b (spent (namedIn ms) (tally isOpening ms)) (done (namedIn ms) (tally isOpening ms))) ≡ namedIn ms
-    go true = refl
-    go false = refl
-
-pub done-answer : (ms : List Move) → isDone (answerOf ms) ≡ not (any isSpent ms)
-done-answer ms = go (any isSpent ms)
-  where
-    go : (b : Bool) → isDone (cond b (spent (namedIn ms) (tally isOpening ms)) (done (namedIn ms) (tally isOpening ms))) ≡ not b
-    go true = refl
-    go false = refl
 
 -- over any count that never rises from a node to its halves, where of the numbers below 2 ^ h only those below N live
 pub greedy-of : (count : Node → ℕ) (lives : Node → Bool) → Counted count lives → (h N : ℕ) → N ≤ 2 ^ h
@@ -66,25 +35,29 @@ greedy-of count lives counted h N fits out k allowance =
     rw (take-take m k (pairsIn count ns) b) (order-need count lives counted h f m)))
     ∙ ap (λ (ps : List Pair). answerBy (needBy (needFor count lives h)) allowance (take k ps)) (order-ranking count lives counted h f N fits out)
 
-module _ (h N : ℕ) (fits : N ≤ 2 ^ h) (xs : List ℕ) (within : Within N xs) (k allowance : ℕ) where
-  pub greedy : answerOf (searchMoves h xs k allowance) ≡ topK h N xs k allowance
-  greedy =
-      ap (λ (w : List Waiting). answerOf (movesFrom (countIn xs) (occupied xs) (k + allowance) k allowance w))
-      (begin-root h xs (within-le N (2 ^ h) fits xs within))
-      ∙ greedy-of (countIn xs) (occupied xs) (counted xs) h N fits (λ d l u. outside N xs within d l) k allowance
-      ∙ topKOf-topK xs h N k allowance
+-- for the count of entries
+pub greedy : (h N : ℕ) → N ≤ 2 ^ h → (xs : List ℕ) → Within N xs → (k allowance : ℕ)
+    → answerOf (searchMoves h xs k allowance) ≡ topK h N xs k allowance
+greedy h N fits xs within k allowance =
+    ap (λ (w : List Waiting). answerOf (movesFrom (countIn xs) (occupied xs) (k + allowance) k allowance w))
+    (begin-root h xs (within-le N (2 ^ h) fits xs within))
+    ∙ greedy-of (countIn xs) (occupied xs) (counted xs) h N fits (λ d l u. outside N xs within d l) k allowance
+    ∙ topKOf-topK xs h N k allowance
 
+-- ---- what follows
+
+module _ (h N : ℕ) (fits : N ≤ 2 ^ h) (xs : List ℕ) (within : Within N xs) (k allowance : ℕ) where
   -- the openings figure is the number of moves that opened a node
   pub openings : figureOf (topK h N xs k allowance) ≡ tally isOpening (searchMoves h xs k allowance)
-  openings = ap figureOf (sym greedy) ∙ figure-answer (searchMoves h xs k allowance)
+  openings = ap figureOf (sym (greedy h N fits xs within k allowance)) ∙ figure-answer (searchMoves h xs k allowance)
 
   -- the documents listed are those that the moves named
   pub named : pairsOf (topK h N xs k allowance) ≡ namedIn (searchMoves h xs k allowance)
-  named = ap pairsOf (sym greedy) ∙ pairs-answer (searchMoves h xs k allowance)
+  named = ap pairsOf (sym (greedy h N fits xs within k allowance)) ∙ pairs-answer (searchMoves h xs k allowance)
 
   -- no move finds the allowance spent exactly where it covers the need of the full list
   pub done-covered : not (any isSpent (searchMoves h xs k allowance)) ≡ leb (need h xs (fullList N k xs)) allowance
-  done-covered = sym (done-answer (searchMoves h xs k allowance)) ∙ ap isDone greedy ∙ go (leb cost allowance)
+  done-covered = sym (done-answer (searchMoves h xs k allowance)) ∙ ap isDone (greedy h N fits xs within k allowance) ∙ go (leb cost allowance)
     where
       full : List Pair
       full = fullList N k xs

@@ -15,6 +15,7 @@ use Rattle.model.proofs.Greedy.Abstract.{Counted}
 use Rattle.model.proofs.Greedy.Nodes.{nodes, allUnder, living, leafly, documents, tally-documents, place, aheadNode, ahead-under, ahead-all-under, leaf-under}
 use Rattle.model.proofs.Greedy.Frontier.{halves, halves-le, Ready, ready-name, ready-open, living-leaf, living-open}
 
+-- at most f visits: each takes the first waiting node, and the halves of an inner node then wait
 abbrev pub visits : (Node → ℕ) → (Node → Bool) → ℕ → List Node → List Node
 visits count lives zero ms = []
 visits count lives (suc f) [] = []
@@ -73,8 +74,8 @@ module _ (count : Node → ℕ) (lives : Node → Bool) (counted : Counted count
       let w' : size lives (halves count lives l q ms) ≤ f = omega arith in
       let a = ahead-under count lives counted n (suc l) q (true-ahead (count n) (place n) (count n) (place n) (ahead-refl (count n) (place n))) in
       let b = ahead-all-under count lives counted n ms (r .sorted .0) in
-      let c : Every (aheadNode count n) (allUnder (halves count lives l q ms)) =
-      omega (arith, halves-le count lives (λ m. not (aheadNode count n m)) l q ms, tally-append (λ m. not (aheadNode count n m)) (nodes (suc l) q) (allUnder ms)) in (
+      let off : Node → Bool = λ m. not (aheadNode count n m) in
+      let c : tally off (allUnder (halves count lives l q ms)) ≡ 0 = omega (arith, halves-le count lives off l q ms, tally-append off (nodes (suc l) q) (allUnder ms)) in (
         every-visit f (halves count lives l q ms) r' w' (aheadNode count n) c,
         visits-sorted f (halves count lives l q ms) r' w',
       )

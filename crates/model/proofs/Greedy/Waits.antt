@@ -7,13 +7,15 @@ use mathlib.Core.Bool.{Bool, true, false, _&&_}
 use lib.ListN.{length, length-map}
 use Rattle.bit_rows.specs.Sequences.{tally, below}
 use Rattle.bit_rows.proofs.Tally.{tally-append, tally-le-length, length-upFrom}
-use Rattle.model.specs.TopK.{Node, node}
-use Rattle.model.specs.Search.{Waiting, wait, waitHalves, moveOf}
+use Rattle.model.specs.Lists.{Within}
+use Rattle.model.specs.TopK.{Node, node, countIn}
+use Rattle.model.specs.Search.{Waiting, wait, waitHalves, moveOf, begin, occupied}
 use Rattle.model.proofs.Sorting.{Every, every-head, every-tail}
 use Rattle.model.proofs.Greedy.Abstract.{Counted, waiting}
 use Rattle.model.proofs.Greedy.Nodes.{nodes, allUnder, living, leafly, leaf-under, living-documents}
 use Rattle.model.proofs.Greedy.Frontier.{join, halves, Ready, ready-root, ready-name, ready-open}
 use Rattle.model.proofs.Greedy.Moves.{wait-join, wait-halves}
+use Rattle.model.proofs.Greedy.Counts.{counted, outside, begin-root}
 
 abbrev pub blocks : List Waiting → List Node
 blocks frontier = map (λ w. w .block) frontier
@@ -77,3 +79,12 @@ module _ (count : Node → ℕ) (lives : Node → Bool) (counted : Counted count
         tally-le-length (λ d. lives (node zero d) && true) (below N),
         length-upFrom 0 N,
       )
+
+-- ---- for the count of entries
+
+pub waits-begin : (h : ℕ) (xs : List ℕ) → Within (2 ^ h) xs → Waits (countIn xs) (occupied xs) h (begin h xs)
+waits-begin h xs within = rw (begin-root h xs within) (waits-root (countIn xs) (occupied xs) h)
+
+pub frontier-length : (h N : ℕ) → N ≤ 2 ^ h → (xs : List ℕ) → Within N xs → (frontier : List Waiting)
+    → Waits (countIn xs) (occupied xs) h frontier → length frontier ≤ N
+frontier-length h N fits xs within = waits-length (countIn xs) (occupied xs) (counted xs) h N fits (λ d l u. outside N xs within d l)
