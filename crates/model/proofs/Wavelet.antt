@@ -1,14 +1,15 @@
 -- Laws of the rows of a wavelet tree, for any height.
 pub mod Walk
+pub mod Unfold
 pub mod Groups
 pub mod Step
 pub mod Rows
 pub mod Mix
 pub mod Split
 pub mod Decode
+pub mod Counts
 pub mod Descend
 pub mod Access
-pub mod Counts
 pub mod Rank
 pub mod CountBelow
 pub mod Sorted
