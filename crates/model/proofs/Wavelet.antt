@@ -8,6 +8,7 @@ pub mod Mix
 pub mod Split
 pub mod Decode
 pub mod Counts
+pub mod Open
 pub mod Descend
 pub mod Access
 pub mod Rank
