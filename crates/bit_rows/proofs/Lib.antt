@@ -4,3 +4,4 @@ pub mod Bits
 pub mod Samples
 pub mod Stores
 pub mod Search
+pub mod Near
