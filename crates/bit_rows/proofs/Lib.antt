@@ -9,3 +9,4 @@ pub mod LittleEndian
 pub mod Samples
 pub mod Stores
 pub mod Search
+pub mod Near

@@ -64,13 +64,24 @@ pub fn ones_in(row: &[u8], a: usize, e: usize) -> usize
     ones_in_words(row, a, m) + ones_in_bytes(row, a + 8 * m, e)
 }
 
+// What four words from byte k on add to the ones below.
+fn four_words(row: &[u8], k: usize) -> usize
+    requires { ⌜ k + 32 ≤ length (now row) ⌝ }
+    ensures { λ r. ⌜ (countBelow 1 (now (row .entry)) (8 * (k + 32)) ≡ countBelow 1 (now (row .entry)) (8 * k) + r) × (r ≤ 256) ⌝ }
+{
+    word_ones(word(row, k))
+        + word_ones(word(row, k + 8))
+        + word_ones(word(row, k + 16))
+        + word_ones(word(row, k + 24))
+}
+
 // The ones of block t, of 512 bits; 0 where the row ends within it.
 pub fn block_ones(row: &[u8], n: usize, t: usize) -> usize
     requires { ⌜ (n < 2 ^ 32) × (rowBytes n ≤ length (now row)) × (512 * t < n) ⌝ }
     ensures { λ r. ⌜ (512 * (t + 1) ≤ n → countBelow 1 (now (row .entry)) (512 * (t + 1)) ≡ countBelow 1 (now (row .entry)) (512 * t) + r) × (r ≤ 512) ⌝ }
 {
     if 512 * t + 512 <= n {
-        ones_in_words(row, 64 * t, 8)
+        four_words(row, 64 * t) + four_words(row, 64 * t + 32)
     } else {
         0
     }
