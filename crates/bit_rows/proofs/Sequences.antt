@@ -1,11 +1,9 @@
 -- Laws of rank and select over any list.
 use mathlib.Core.Path.{_≡_, refl, sym, ap, _∙_}
-use mathlib.Core.Logic.{_⊎_, inl, inr}
 use mathlib.Core.Bool.{Bool, true, false, cond, _&&_}
-use mathlib.Core.List.{List, [], _∷_, _++_, map}
+use mathlib.Core.List.{List, [], _∷_}
 use Prim.Native.Nat.{ℕ, zero, suc, _+_, _-_, _≤_, _<_}
 use native.Mathlib.Nat.{le-of-suc-le-suc, not-suc-le-zero}
-use native.Mathlib.Decide.{decLe}
 use native.Mathlib.Numerals.{add-one}
 use native.Mathlib.Omega.{arith}
 use lib.Dec.{eqb}
@@ -13,8 +11,7 @@ use lib.ListN.{length, getD}
 use lib.Seq.{take-all}
 use borrow.Author.Tests.{eqb-true, eq-eqb, ne-eqb}
 use Rattle.bit_rows.specs.Sequences.{bit, occurrences, rank, select}
-use Rattle.bit_rows.proofs.Tests.{bit-le, bit-eq, bit-ne, le-or-lt}
-use Rattle.bit_rows.proofs.Tally.{tally-append}
+use Rattle.bit_rows.proofs.Tests.{bit-le}
 
 -- ---- rank
 

@@ -1,18 +1,16 @@
 -- Laws of `tally`, `all`, `upFrom` and of the ranks and occurrences that are made of them.
-use Prim.Native.Nat.{ℕ, zero, suc, _+_, _-_, _≤_, _<_, zero-le, suc-le-suc}
+use Prim.Native.Nat.{ℕ, zero, suc, _+_, _≤_, _<_}
 use native.Mathlib.Omega.{arith}
 use native.Mathlib.Decide.{ℕ-discrete}
 use native.Mathlib.Nat.{zero-add, add-zero, suc-add, add-suc, not-suc-le-zero, le-of-suc-le-suc}
 use mathlib.Core.Path.{_≡_, refl, sym, ap, _∙_, subst, fun-ext}
 use mathlib.Core.Logic.{_⊎_, inl, inr}
 use mathlib.Core.List.{List, [], _∷_, _++_, map}
-use mathlib.Core.Bool.{Bool, true, false, not, _&&_}
+use mathlib.Core.Bool.{Bool, true, false}
 use lib.ListN.{length, getD, take, drop, take-append-drop}
 use lib.Seq.{take-suc, take-add}
-use lib.Dec.{eqb}
-use borrow.Author.Tests.{ne-eqb, eqb-true}
-use Rattle.bit_rows.specs.Sequences.{bit, tally, all, upFrom, below, occurrences, rank}
-use Rattle.bit_rows.proofs.Tests.{look, bit-le, and-both, both-and}
+use Rattle.bit_rows.specs.Sequences.{bit, tally, all, upFrom, below}
+use Rattle.bit_rows.proofs.Tests.{look, and-both, both-and}
 
 module _ {A : Type 0} where
   pub tally-append : (p : A → Bool) (xs ys : List A) → tally p (xs ++ ys) ≡ tally p xs + tally p ys

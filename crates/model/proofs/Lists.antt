@@ -1,7 +1,7 @@
 -- Laws of `keep`, `part`, `Within`, and of maps and joins of lists.
 use Prim.Native.Nat.{ℕ, zero, suc, _+_, _-_, _≤_, _<_, zero-le, suc-le-suc}
 use native.Mathlib.Omega.{arith}
-use native.Mathlib.Nat.{zero-add, le-of-suc-le-suc, not-suc-le-zero}
+use native.Mathlib.Nat.{le-of-suc-le-suc, not-suc-le-zero}
 use mathlib.Core.Path.{_≡_, refl, sym, ap, _∙_}
 use mathlib.Core.List.{List, [], _∷_, _++_, map, append-assoc}
 use mathlib.Core.Bool.{Bool, true, false, cond, _&&_}
@@ -9,7 +9,7 @@ use lib.ListN.{length, getD, take, drop, length-append, length-drop, take-append
 use lib.Seq.{length-take-le, take-append-seam, split-at, getD-append-seam}
 use Rattle.bit_rows.specs.Sequences.{bit, tally}
 use Rattle.bit_rows.specs.Bits.{concat}
-use Rattle.bit_rows.proofs.Tally.{tally-append, tally-take-add}
+use Rattle.bit_rows.proofs.Tally.{tally-take-add}
 pub use Rattle.bit_rows.proofs.Tally.{map-append}
 use Rattle.model.specs.Lists.{keep, part, Within}
 

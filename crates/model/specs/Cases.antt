@@ -7,7 +7,7 @@ use Rattle.bit_rows.specs.Bits.{bitsOf, pack, samplesOf, samplesRight, unusedCl
 use Rattle.model.specs.Outcome.{Outcome, answered, refused}
 use Rattle.model.specs.Format.{Library, Sizes, rowsOf, encode}
 use Rattle.model.specs.Opening.{entriesAt, opening}
-use Rattle.model.specs.Queries.{Place, place, none, Range, ofEntries, accessResult, rankResult, selectResult, quantileResult, PairsResult, conjunctionResult, perMilleResult}
+use Rattle.model.specs.Queries.{Place, place, none, ofEntries, accessResult, rankResult, selectResult, quantileResult, PairsResult, conjunctionResult, perMilleResult}
 use Rattle.model.specs.TopK.{Ended, doneWith, spentWith, SearchResult, greedyResult}
 
 -- ---- the small library

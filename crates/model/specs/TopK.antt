@@ -1,5 +1,5 @@
 -- The full list, its need and the covered front part; the results of both searches. Document 01, "Bit rows" and the shortlists.
-use Prim.Native.Nat.{ℕ, zero, suc, _+_, _-_, _*_, _/_, _^_, min}
+use Prim.Native.Nat.{ℕ, zero, suc, _-_, _*_, _/_, _^_, min}
 use mathlib.Core.List.{List, [], _∷_, map}
 use mathlib.Core.Bool.{Bool, cond, _&&_, _||_}
 use lib.ListN.{length, take, replicate}
@@ -9,7 +9,6 @@ use Rattle.bit_rows.specs.Bits.{concat}
 use Rattle.model.specs.Lists.{overwrite}
 use Rattle.model.specs.Outcome.{Outcome, answered, refused, refuse, andThen}
 use Rattle.model.specs.Rows.{height}
-use Rattle.model.specs.Format.{Library}
 use Rattle.model.specs.Opening.{opened}
 use Rattle.model.specs.Queries.{Range, inRange, Pair, flat, listing}
 

@@ -1,11 +1,11 @@
 -- The parts of the archive of a library: how long each is, and what stands where in it.
 use Prim.Native.Nat.{ℕ, zero, suc, _+_, _*_, _^_, _≤_, _<_}
 use native.Mathlib.Omega.{arith}
-use native.Mathlib.Nat.{le-of-lt, mul-le-mul, le-trans}
+use native.Mathlib.Nat.{le-of-lt, mul-le-mul}
 use mathlib.Core.Path.{_≡_, refl, sym, ap, ap₂, _∙_}
 use mathlib.Core.List.{List, [], _∷_, _++_, map, map-map, append-assoc, append-nil}
 use lib.ListN.{length, getD, take, drop, length-append}
-use lib.Seq.{drop-append-add, drop-drop, drop-append-seam}
+use lib.Seq.{drop-append-add}
 use Rattle.bit_rows.specs.Sequences.{below}
 use Rattle.bit_rows.specs.Bits.{concat, sum, pack, littleEndian, numberAt, samplesOf, sampleCount, rowBytes}
 use Rattle.bit_rows.proofs.Chunks.{length-chunks, chunk-at}
@@ -13,12 +13,12 @@ use Rattle.bit_rows.proofs.Pack.{length-pack}
 use Rattle.bit_rows.proofs.LittleEndian.{length-numbers, numberAt-numbers, length-samples}
 use Rattle.model.specs.Lists.{Within}
 use Rattle.model.specs.Rows.{height, row}
-use Rattle.model.specs.Format.{Library, Sizes, sizesOf, rowCount, samplesOffset, samplesLength, rowsOffset, rowsLength, archiveLength, header, tableFrom, rowsOf, encode}
+use Rattle.model.specs.Format.{Library, Sizes, sizesOf, samplesOffset, samplesLength, rowsOffset, rowsLength, archiveLength, header, tableFrom, encode}
 use Rattle.model.specs.Opening.{samplesAt, rowAt}
 use Rattle.model.proofs.Lists.{within-at, within-append, within-le}
 use Rattle.model.proofs.Height.{le-pow-height, height-le}
 use Rattle.model.proofs.Wavelet.Rows.{row-length}
-use Rattle.model.proofs.Format.Valid.{Limits, Valid}
+use Rattle.model.proofs.Format.Valid.{Valid}
 
 -- ---- the term table
 

@@ -1,13 +1,13 @@
 -- Reading what was written: opening the archive of a library accepts it with its n, N and W, and it holds the library.
-use Prim.Native.Nat.{ℕ, zero, suc, _+_, _-_, _*_, _≤_, _<_}
+use Prim.Native.Nat.{ℕ, zero, suc, _+_, _*_, _<_}
 use native.Mathlib.Omega.{arith}
 use native.Mathlib.Nat.{zero-add, add-zero}
-use mathlib.Core.Path.{_≡_, refl, sym, ap, ap₂, _∙_, subst}
-use mathlib.Core.List.{List, [], _∷_, _++_, map}
-use mathlib.Core.Bool.{Bool, true, false, not, _&&_}
-use lib.ListN.{length, getD, take, drop, length-map, List·getD-append}
-use lib.Seq.{ext-getD, take-length, getD-append-add, take-suc}
-use lib.Dec.{leb, ltb, eqb}
+use mathlib.Core.Path.{_≡_, refl, sym, ap, ap₂, _∙_}
+use mathlib.Core.List.{List, [], _∷_, map}
+use mathlib.Core.Bool.{true, not}
+use lib.ListN.{length, getD, take, length-map, List·getD-append}
+use lib.Seq.{ext-getD, take-length, getD-append-add}
+use lib.Dec.{leb, eqb}
 use borrow.Author.Tests.{le-ltb, eq-eqb}
 use Rattle.bit_rows.specs.Sequences.{all, upFrom, below}
 use Rattle.bit_rows.specs.Bits.{sum, bitsOf, pack, unusedClear, numberAt, samplesOf, samplesRight}
@@ -16,15 +16,14 @@ use Rattle.bit_rows.proofs.Tally.{all-upFrom, length-upFrom, getD-map-below}
 use Rattle.bit_rows.proofs.Pack.{bitsOf-pack, unused-pack}
 use Rattle.bit_rows.proofs.LittleEndian.{samples-right}
 use Rattle.model.specs.Lists.{any, Within}
-use Rattle.model.specs.Outcome.{Outcome, answered, refused, refuse}
-use Rattle.model.specs.Rows.{height, row, decode}
+use Rattle.model.specs.Outcome.{answered, refuse}
+use Rattle.model.specs.Rows.{height, row}
 use Rattle.model.specs.Format.{Library, Sizes, sizesOf, withinLimits, tableOffset, archiveLength, pairs, header, tableFrom, encode}
 use Rattle.model.specs.Opening.{sizesAt, startAt, lengthAt, samplesAt, rowAt, entriesAt, contents, pairsHold, tableHolds, opening}
-use Rattle.model.proofs.Lists.{within-at}
 use Rattle.model.proofs.Wavelet.Rows.{row-below}
 use Rattle.model.proofs.Wavelet.Decode.{decode-of}
-use Rattle.model.proofs.Format.Valid.{Limits, Valid, of-limits, any-within}
-use Rattle.model.proofs.Format.Layout.{numbers, length-table, table-start, table-length, entries-within, row-size, length-encode, samples-at, row-at, number-at}
+use Rattle.model.proofs.Format.Valid.{Valid, of-limits, any-within}
+use Rattle.model.proofs.Format.Layout.{table-start, table-length, entries-within, row-size, length-encode, samples-at, row-at, number-at}
 
 sum-take-suc : (ls : List ℕ) (t : ℕ) → t < length ls → sum (take (suc t) ls) ≡ sum (take t ls) + getD ls t 0
 sum-take-suc [] t l = absurd (omega arith)

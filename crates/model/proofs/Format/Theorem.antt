@@ -1,12 +1,12 @@
 -- Demand 2 at the level of bytes: a library and its archive determine each other.
 use Prim.Native.Nat.{ℕ, _<_}
-use mathlib.Core.Path.{_≡_, sym, ap, _∙_, subst}
+use mathlib.Core.Path.{_≡_, sym, _∙_, subst}
 use mathlib.Core.List.{List}
 use lib.ListN.{getD}
 use Rattle.model.specs.Outcome.{answered}
-use Rattle.model.specs.Format.{Library, Sizes, sizesOf, encode, archiveOf}
+use Rattle.model.specs.Format.{Library, Sizes, sizesOf, archiveOf}
 use Rattle.model.specs.Opening.{contents, opening}
-use Rattle.model.proofs.Format.Valid.{Valid, valid-archive}
+use Rattle.model.proofs.Format.Valid.{valid-archive}
 use Rattle.model.proofs.Format.ReadBack.{opening-encode, contents-encode}
 use Rattle.model.proofs.Format.WriteBack.{accepted, sizes-same, archive-contents}
 

@@ -1,17 +1,16 @@
 -- The libraries that may be written: refusals 14 to 16 and what they leave.
-use Prim.Native.Nat.{ℕ, _≤_, _<_}
+use Prim.Native.Nat.{ℕ, _≤_}
 use native.Mathlib.Omega.{arith}
-use mathlib.Core.Path.{_≡_, refl, sym, ap, _∙_}
-use mathlib.Core.Logic.{_⊎_, inl, inr}
+use mathlib.Core.Path.{_≡_, refl}
 use mathlib.Core.List.{List, [], _∷_}
-use mathlib.Core.Bool.{Bool, true, false, not, _&&_, _||_, true≢false}
+use mathlib.Core.Bool.{Bool, true, false, not, _&&_}
 use lib.ListN.{length}
 use lib.Dec.{leb, eqb}
-use borrow.Author.Tests.{leb-true, leb-false, le-leb, lt-leb, eqb-true, eq-eqb, not-true, not-false}
+use borrow.Author.Tests.{leb-true, leb-false, le-leb, lt-leb, eqb-true, eq-eqb, not-false}
 use Rattle.bit_rows.specs.Bits.{sum}
-use Rattle.bit_rows.proofs.Tests.{look, and-both, both-and, or-neither}
+use Rattle.bit_rows.proofs.Tests.{and-both, or-neither}
 use Rattle.model.specs.Lists.{any, Within}
-use Rattle.model.specs.Outcome.{Outcome, answered, refused, refuse}
+use Rattle.model.specs.Outcome.{Outcome, answered, refuse}
 use Rattle.model.specs.Format.{Library, Sizes, sizesOf, withinLimits, encode, archiveOf}
 
 -- n, N and W within their limits

@@ -1,14 +1,14 @@
 -- Writing what was read: what an accepted archive holds is a library whose archive has the same bytes.
-use Prim.Native.Nat.{ℕ, zero, suc, _+_, _-_, _*_, _^_, _≤_, _<_}
+use Prim.Native.Nat.{ℕ, zero, suc, _+_, _*_, _≤_, _<_}
 use native.Mathlib.Omega.{arith}
-use native.Mathlib.Nat.{zero-add, add-zero, mod-lt, zero-lt-suc, suc-mul, mul-le-mul-right}
+use native.Mathlib.Nat.{suc-mul, mul-le-mul-right}
 use mathlib.Core.Path.{_≡_, refl, sym, ap, ap₂, _∙_, subst}
-use mathlib.Core.List.{List, [], _∷_, _++_, map, map-map, append-assoc}
-use mathlib.Core.Bool.{Bool, true, false, not, _&&_}
-use lib.ListN.{length, getD, take, drop, length-map, take-append-drop, length-drop}
-use lib.Seq.{take-all, take-add, drop-drop, length-take-le, getD-take, getD-drop}
+use mathlib.Core.List.{List, [], _∷_, _++_, map, append-assoc}
+use mathlib.Core.Bool.{true, not}
+use lib.ListN.{length, getD, take, drop, length-map, length-drop}
+use lib.Seq.{take-all, take-add, drop-drop, length-take-le, getD-drop}
 use lib.Dec.{leb, ltb, eqb}
-use borrow.Author.Tests.{eqb-true, ltb-false, not-false}
+use borrow.Author.Tests.{eqb-true, not-false}
 use Rattle.bit_rows.specs.Sequences.{all, upFrom, below}
 use Rattle.bit_rows.specs.Bits.{concat, sum, bitsOf, pack, littleEndian, unusedClear, numberAt, samplesOf, samplesRight, sampleCount, rowBytes}
 use Rattle.bit_rows.proofs.Tests.{and-both}
@@ -18,8 +18,8 @@ use Rattle.bit_rows.proofs.Bits.{length-bitsOf, getD-bitsOf, bitAt-lt}
 use Rattle.bit_rows.proofs.Pack.{pack-bitsOf}
 use Rattle.bit_rows.proofs.LittleEndian.{little-numberAt, numbers-at, samples-are}
 use Rattle.model.specs.Lists.{any, Within}
-use Rattle.model.specs.Outcome.{Outcome, answered, refused, refuse}
-use Rattle.model.specs.Rows.{height, row, decode}
+use Rattle.model.specs.Outcome.{Outcome, answered, refuse}
+use Rattle.model.specs.Rows.{row, decode}
 use Rattle.model.specs.Format.{Library, Sizes, sizesOf, withinLimits, tableOffset, rowCount, samplesOffset, samplesLength, rowsOffset, rowsLength, archiveLength, pairs, header, tableFrom, encode, archiveOf}
 use Rattle.model.specs.Opening.{sizesAt, startAt, lengthAt, samplesAt, rowAt, entriesAt, contents, pairsHold, tableHolds, opening}
 use Rattle.model.proofs.Lists.{map-append, concat-append, within-of}
