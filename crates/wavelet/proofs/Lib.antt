@@ -1,2 +1,3 @@
 -- Laws of the levels.
 pub mod Stored
+pub mod Spans

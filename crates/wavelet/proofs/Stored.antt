@@ -2,12 +2,12 @@
 use Prim.Native.Nat.{ℕ, suc, _+_, _*_, _^_, _≤_, _<_}
 use native.Mathlib.Omega.{arith}
 use native.Mathlib.Nat.{suc-mul, mul-le-mul-right, mul-le-mul}
-use mathlib.Core.Path.{_≡_, refl, sym, ap, _∙_}
+use mathlib.Core.Path.{_≡_}
 use mathlib.Core.List.{List}
-use lib.ListN.{length, getD, take, drop, length-drop}
+use lib.ListN.{length, drop, length-drop}
 use lib.Seq.{length-take-le}
-use Rattle.bit_rows.specs.Bits.{bitAt, bitsOf, rowBytes, sampleCount}
-use Rattle.bit_rows.specs.Rows.{Sized, Sampled}
+use Rattle.bit_rows.specs.Bits.{bitsOf, rowBytes, sampleCount}
+use Rattle.bit_rows.specs.Rows.{Sampled}
 use Rattle.bit_rows.proofs.Bits.{length-bitsOf, getD-bitsOf, bitAt-lt}
 use Rattle.model.specs.Lists.{Within}
 use Rattle.model.specs.Rows.{row}

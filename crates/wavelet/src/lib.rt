@@ -1,5 +1,8 @@
 // Levels of rows as a wavelet tree. Counts and places of bits come from bit_rows' contracts alone.
 mod level;
+mod node;
+
+pub use node::halve;
 
 // Where the levels of a tree lie in a byte slice: how many entries, how many rows, and the offsets of the first samples and of the first row.
 pub struct Levels {
@@ -7,4 +10,18 @@ pub struct Levels {
     pub height: usize,
     pub samples: usize,
     pub rows: usize,
+}
+
+// A node's bounds in its level, and the two places of a range in it.
+pub struct Span {
+    pub start: usize,
+    pub lo: usize,
+    pub hi: usize,
+    pub end: usize,
+}
+
+// The halves of a node: entries whose next bit is 0, and entries whose next bit is 1.
+pub struct Halves {
+    pub low: Span,
+    pub high: Span,
 }
