@@ -1,7 +1,9 @@
 -- Nodes of the wavelet tree with a range in them, and their halves.
 use Prim.Native.Nat.{ℕ, _≤_}
 use mathlib.Core.List.{List}
+use mathlib.Core.Bool.{cond}
 use lib.ListN.{length}
+use lib.Dec.{eqb}
 use Rattle.model.proofs.Wavelet.Walk.{left, right, pos}
 use Rattle.wavelet.specs.declared.Span.{Span}
 use Rattle.wavelet.specs.declared.Halves.{Halves}
@@ -21,6 +23,10 @@ halvesOf bits s =
       low = record { start = s .start; lo = left bits (s .start) (s .lo); hi = left bits (s .start) (s .hi); end = middle };
       high = record { start = middle; lo = right bits (s .start) (s .end) (s .lo); hi = right bits (s .start) (s .end) (s .hi); end = s .end };
     }
+
+-- the half that a bit leads to
+abbrev pub halfOf : Halves → ℕ → Span
+halfOf two bit = cond (eqb bit 1) (two .high) (two .low)
 
 -- of entries below 2 ^ h: the node q of depth j, with the range of the entries a up to but without b
 abbrev pub spanOf : ℕ → List ℕ → ℕ → ℕ → ℕ → ℕ → Span

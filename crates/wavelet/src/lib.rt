@@ -1,8 +1,11 @@
 // Levels of rows as a wavelet tree. Counts and places of bits come from bit_rows' contracts alone.
 mod level;
 mod node;
+mod range;
 
+pub use node::half;
 pub use node::halve;
+pub use range::count_below;
 
 // Where the levels of a tree lie in a byte slice: how many entries, how many rows, and the offsets of the first samples and of the first row.
 pub struct Levels {

@@ -6,7 +6,7 @@ use crate::level::ones;
 ghost use mathlib.Core.Path.{_≡_};
 ghost use Prim.Native.Nat.{_≤_, _<_};
 ghost use Rattle.wavelet.specs.Levels.{Stored, levelOf};
-ghost use Rattle.wavelet.specs.Spans.{Ordered, halvesOf};
+ghost use Rattle.wavelet.specs.Spans.{Ordered, halvesOf, halfOf};
 
 // The halves of a node of level j, in the level below.
 pub fn halve(bytes: &[u8], t: Levels, j: usize, s: Span) -> Halves
@@ -32,4 +32,13 @@ pub fn halve(bytes: &[u8], t: Levels, j: usize, s: Span) -> Halves
         end: s.end,
     };
     Halves { low, high }
+}
+
+// The half that a bit leads to.
+pub fn half(two: Halves, bit: usize) -> Span
+    ensures { λ r. ⌜ r ≡ halfOf two bit ⌝ }
+{
+    let low = two.low;
+    let high = two.high;
+    if bit == 1 { high } else { low }
 }
