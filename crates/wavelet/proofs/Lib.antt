@@ -1,2 +1,4 @@
 -- Laws of the levels.
 pub mod Stored
+pub mod Spans
+pub mod Descents

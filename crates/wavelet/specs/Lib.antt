@@ -1,2 +1,3 @@
 -- What the contracts of wavelet cite.
 pub mod Levels
+pub mod Spans

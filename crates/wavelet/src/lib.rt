@@ -1,8 +1,30 @@
 // Levels of rows as a wavelet tree. Counts and places of bits come from bit_rows' contracts alone.
+mod level;
+mod node;
+mod range;
+
+pub use node::half;
+pub use node::halve;
+pub use range::count_below;
+
 // Where the levels of a tree lie in a byte slice: how many entries, how many rows, and the offsets of the first samples and of the first row.
 pub struct Levels {
     pub entries: usize,
     pub height: usize,
     pub samples: usize,
     pub rows: usize,
+}
+
+// A node's bounds in its level, and the two places of a range in it.
+pub struct Span {
+    pub start: usize,
+    pub lo: usize,
+    pub hi: usize,
+    pub end: usize,
+}
+
+// The halves of a node: entries whose next bit is 0, and entries whose next bit is 1.
+pub struct Halves {
+    pub low: Span,
+    pub high: Span,
 }

@@ -1,0 +1,33 @@
+use borrow.Author.Needs.{needs}
+use mathlib.Core.Path.{sym, ap, _∙_}
+use mathlib.Core.List.{List}
+use Prim.Native.Nat.{ℕ}
+use Rattle.bit_rows.specs.Bits.{bitsOf}
+use Rattle.bit_rows.specs.Rows.{foundAt}
+use Rattle.bit_rows.specs.Sequences.{select}
+use Rattle.wavelet.proofs.Stored.{sampled, level-is}
+use Rattle.wavelet.proofs.level.select_one.Statement.{statement}
+use Rattle.wavelet.proofs.level.select_one.Tie as tie
+
+samples-at-requires : tie.Need-samples-at-requires
+samples-at-requires c κs = search needs
+
+row-at-requires : tie.Need-row-at-requires
+row-at-requires c κs = search needs
+
+select1-requires : tie.Need-select1-requires
+select1-requires c κs =
+    let s = c .before .before .before in
+    rw (c .before .samples-at .ensures, c .row-at .ensures)
+    (sampled (s .args .bytes .now) (s .args .t) (s .pre .0) (s .args .j) (s .pre .1))
+
+returns : tie.Need-returns
+returns c =
+    let s = c .before .before .before .before in
+    let n = s .args .t .entries in
+    c .select1 .ensures
+    ∙ ap (λ (l : List ℕ). foundAt n (select 1 (bitsOf n l) (s .args .i))) (c .before .row-at .ensures)
+    ∙ ap (λ (l : List ℕ). foundAt n (select 1 l (s .args .i))) (sym (level-is (s .args .bytes .now) (s .args .t) (s .args .j) (s .pre .1)))
+
+pub select-one-spec : {M : Type 1} → statement M
+select-one-spec = tie.close (tie.spec samples-at-requires row-at-requires select1-requires returns)

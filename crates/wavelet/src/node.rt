@@ -1,0 +1,44 @@
+// A node of the tree with a range in it, and the step to its halves.
+use crate::Halves;
+use crate::Levels;
+use crate::Span;
+use crate::level::ones;
+ghost use mathlib.Core.Path.{_≡_};
+ghost use Prim.Native.Nat.{_≤_, _<_};
+ghost use Rattle.wavelet.specs.Levels.{Stored, levelOf};
+ghost use Rattle.wavelet.specs.Spans.{Ordered, halvesOf, halfOf};
+
+// The halves of a node of level j, in the level below.
+pub fn halve(bytes: &[u8], t: Levels, j: usize, s: Span) -> Halves
+    requires { ⌜ Stored (now bytes) t ⌝ }
+    requires { ⌜ (j < t .height) × Ordered (t .entries) s ⌝ }
+    ensures { λ r. ⌜ (r ≡ halvesOf (levelOf (now (bytes .entry)) t j) s) × Ordered (t .entries) (r .low) × Ordered (t .entries) (r .high) ⌝ }
+{
+    let before = ones(bytes, t, j, s.start);
+    let lo = ones(bytes, t, j, s.lo) - before;
+    let hi = ones(bytes, t, j, s.hi) - before;
+    let all = ones(bytes, t, j, s.end) - before;
+    let middle = s.end - all;
+    let low = Span {
+        start: s.start,
+        lo: s.lo - lo,
+        hi: s.hi - hi,
+        end: middle,
+    };
+    let high = Span {
+        start: middle,
+        lo: middle + lo,
+        hi: middle + hi,
+        end: s.end,
+    };
+    Halves { low, high }
+}
+
+// The half that a bit leads to.
+pub fn half(two: Halves, bit: usize) -> Span
+    ensures { λ r. ⌜ r ≡ halfOf two bit ⌝ }
+{
+    let low = two.low;
+    let high = two.high;
+    if bit == 1 { high } else { low }
+}
