@@ -61,6 +61,12 @@ module _ (bits : List ℕ) where
   pub left-mono : (s p e : ℕ) → s ≤ p → p ≤ e → left bits s p ≤ left bits s e
   left-mono s p e l m = omega (arith, ones-add s p l, ones-add p e m, ones-mono s p l, ones-mono p e m)
 
+  pub left-le : (s p : ℕ) → s ≤ p → left bits s p ≤ p
+  left-le s p l = omega (arith, ones-add s p l, ones-mono s p l)
+
+  pub left-le-right : (s p e : ℕ) → left bits s e ≤ right bits s e p
+  left-le-right s p e = omega arith
+
   pub right-mono : (s p r e : ℕ) → p ≤ r → right bits s e p ≤ right bits s e r
   right-mono s p r e l = omega (arith, ones-mono p r l)
 
