@@ -22,14 +22,16 @@ use Rattle.bit_rows.proofs.Tally.{all-upFrom, all-upFrom-at}
 -- ---- numbers of 32 bits
 
 -- a number below 2 ^ 32 is its four bytes
-four-bytes : (x a b c : ℕ) → a ≡ x / 256 → b ≡ a / 256 → c ≡ b / 256 → x < 2 ^ 32
-    → x % 256 + 256 * (a % 256) + 65536 * (b % 256) + 16777216 * (c % 256) ≡ x
-four-bytes x a b c p q r l =
-    let h1 : 256 * a + x % 256 ≡ x = omega arith in
-    let h2 : 256 * b + a % 256 ≡ a = omega arith in
-    let h3 : 256 * c + b % 256 ≡ b = omega arith in
-    let h4 : c % 256 ≡ c = omega arith in
-    omega (arith, h1, h2, h3, h4)
+pub four-bytes : (x : ℕ) → x < 2 ^ 32 → x % 256 + 256 * (x / 256 % 256) + 65536 * (x / 65536 % 256) + 16777216 * (x / 16777216 % 256) ≡ x
+four-bytes x l = go (x / 256) (x / 65536) (x / 16777216) refl (sym (div-div-eq-div-mul x 256 256)) (sym (div-div-eq-div-mul x 65536 256))
+  where
+    go : (a b c : ℕ) → a ≡ x / 256 → b ≡ a / 256 → c ≡ b / 256 → x % 256 + 256 * (a % 256) + 65536 * (b % 256) + 16777216 * (c % 256) ≡ x
+    go a b c p q r =
+        let h1 : 256 * a + x % 256 ≡ x = omega arith in
+        let h2 : 256 * b + a % 256 ≡ a = omega arith in
+        let h3 : 256 * c + b % 256 ≡ b = omega arith in
+        let h4 : c % 256 ≡ c = omega arith in
+        omega (arith, h1, h2, h3, h4)
 
 module _ (bytes : List ℕ) (k x : ℕ) (fits : k + 4 ≤ length bytes) where
   -- four stores, one a byte
@@ -69,8 +71,7 @@ module _ (bytes : List ℕ) (k x : ℕ) (fits : k + 4 ≤ length bytes) where
 
   pub numberAt-withNumber : x < 2 ^ 32 → numberAt (withNumber bytes k x) k ≡ x
   numberAt-withNumber l =
-      let f = four-bytes x (x / 256) (x / 65536) (x / 16777216) refl (sym (div-div-eq-div-mul x 256 256)) (sym (div-div-eq-div-mul x 65536 256)) l in
-      omega (arith, rw (add-zero k) at (inside 0), inside 1, inside 2, inside 3)
+      omega (arith, four-bytes x l, rw (add-zero k) at (inside 0), inside 1, inside 2, inside 3)
 
   pub numberAt-withNumber-lt : (i : ℕ) → i + 4 ≤ k → numberAt (withNumber bytes k x) i ≡ numberAt bytes i
   numberAt-withNumber-lt i h =

@@ -35,7 +35,7 @@ interleave top (c ∷ cs) lows highs =
     let other = getD lows 0 0 ∷ interleave top cs (drop 1 lows) highs in
     cond (eqb c 1) one other
 
--- the one list of n entries below 2 ^ h that has the given rows (proofs/Decode: `decoded`, `rows-unique`)
+-- the one list of n entries below 2 ^ h that has the given rows (proofs/Wavelet/Decode: `decoded`, `rows-unique`)
 abbrev pub decode : ℕ → ℕ → (ℕ → List ℕ) → List ℕ
 decode zero n rows = replicate n 0
 decode (suc h) n rows =

@@ -15,21 +15,6 @@ later : (t : Bool) (j a rest : ℕ) → (t ≡ true → j ≡ 1 → ⊥) → con
 later true j a rest n = rw (ne-eqb j 1 (n refl))
 later false j a rest n = refl
 
--- an element is found by its number
-pub select-eq : (v : ℕ) (xs : List ℕ) (p j : ℕ) → p < length xs → getD xs p 0 ≡ v → rank v xs p + 1 ≡ j → select v xs j ≡ p
-select-eq v [] p j h e r = absurd (not-suc-le-zero h)
-select-eq v (x ∷ xs) zero j h e r = rw (eq-eqb v x (sym e), eq-eqb j 1 (sym r))
-select-eq v (x ∷ xs) (suc p) j h e r =
-    later (eqb v x) j 0 (suc (select v xs (j - bit (eqb v x)))) (λ t o. omega (arith, ap bit t))
-    ∙ ap suc (select-eq v xs p (j - bit (eqb v x)) (le-of-suc-le-suc h) e (omega arith))
-
--- where there are fewer, the answer is one past the end
-pub select-none : (v : ℕ) (xs : List ℕ) (j : ℕ) → occurrences v xs < j → select v xs j ≡ length xs
-select-none v [] j h = refl
-select-none v (x ∷ xs) j h =
-    later (eqb v x) j 0 (suc (select v xs (j - bit (eqb v x)))) (λ t o. omega (arith, ap bit t))
-    ∙ ap suc (select-none v xs (j - bit (eqb v x)) (omega arith))
-
 -- after as many as stand before s, the next ones stand at s or later
 pub le-select : (v : ℕ) (xs : List ℕ) (s k : ℕ) → s ≤ length xs → s ≤ select v xs (rank v xs s + k + 1)
 le-select v xs zero k l = zero-le
