@@ -4,7 +4,7 @@ use crate::Levels;
 use crate::Span;
 use crate::level::ones;
 ghost use mathlib.Core.Path.{_≡_};
-ghost use Prim.Native.Nat.{_≤_, _<_};
+ghost use Prim.Native.Nat.{_<_};
 ghost use Rattle.wavelet.specs.Levels.{Stored, levelOf};
 ghost use Rattle.wavelet.specs.Spans.{Ordered, halvesOf, halfOf};
 
