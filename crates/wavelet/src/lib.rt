@@ -1,8 +1,11 @@
 // Levels of rows as a wavelet tree. Counts and places of bits come from bit_rows' contracts alone.
+mod descent;
 mod level;
 mod node;
 mod range;
 
+pub use descent::access;
+pub use descent::rank;
 pub use node::half;
 pub use node::halve;
 pub use range::count_below;
@@ -27,4 +30,11 @@ pub struct Span {
 pub struct Halves {
     pub low: Span,
     pub high: Span,
+}
+
+// A node's bounds in its level, and one place in it.
+pub struct Place {
+    pub start: usize,
+    pub at: usize,
+    pub end: usize,
 }
