@@ -9,6 +9,8 @@ pub use descent::rank;
 pub use node::half;
 pub use node::halve;
 pub use range::count_below;
+pub use range::next_document;
+pub use range::quantile;
 
 // Where the levels of a tree lie in a byte slice: how many entries, how many rows, and the offsets of the first samples and of the first row.
 pub struct Levels {
@@ -37,4 +39,16 @@ pub struct Place {
     pub start: usize,
     pub at: usize,
     pub end: usize,
+}
+
+// A document of a range, and how often it occurs there.
+pub struct Counted {
+    pub document: usize,
+    pub count: usize,
+}
+
+// What a search for the next document answers: the document with its count in the range, or nothing.
+pub enum Next {
+    Document { document: usize, count: usize },
+    Nothing,
 }
