@@ -1,6 +1,5 @@
 -- Laws of the rows of a wavelet tree, for any height.
 pub mod Walk
-pub mod Unfold
 pub mod Groups
 pub mod Step
 pub mod Rows
@@ -8,7 +7,6 @@ pub mod Mix
 pub mod Split
 pub mod Decode
 pub mod Counts
-pub mod Open
 pub mod Descend
 pub mod Access
 pub mod Rank

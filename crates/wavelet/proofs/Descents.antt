@@ -1,26 +1,31 @@
 -- Descents by the bits of a value: what holds of the node that is reached at each depth.
 use Prim.Native.Nat.{ℕ, suc, _+_, _-_, _*_, _/_, _%_, _^_, _≤_, _<_}
-use native.Mathlib.Nat.{le-of-lt, le-trans, mod-lt, zero-lt-suc, one-mul, mul-le-mul-right, div-eq-of-lt, div-lt-iff-lt-mul}
+use native.Mathlib.Nat.{le-of-lt, le-refl, div-le-self, le-trans, mod-lt, zero-lt-suc, one-mul, mul-le-mul-right, div-eq-of-lt, div-lt-iff-lt-mul}
 use native.Mathlib.Numerals.{add-one}
 use native.Mathlib.Omega.{arith}
 use native.Mathlib.Decide.{ℕ-discrete, decLe}
-use mathlib.Core.Path.{_≡_, sym, ap, _∙_, subst}
+use mathlib.Core.Path.{_≡_, refl, sym, ap, _∙_, subst}
 use mathlib.Core.List.{List}
 use mathlib.Core.Bool.{cond}
-use lib.ListN.{length}
-use lib.Pow.{pow-pos}
+use lib.ListN.{length, getD, take}
+use lib.Pow.{pow-pos, pow-mono}
 use lib.Dec.{ltb, eqb}
 use borrow.Author.Tests.{eq-eqb, ne-eqb, lt-ltb}
-use Rattle.bit_rows.specs.Sequences.{tally}
+use Rattle.bit_rows.specs.Sequences.{tally, rank}
 use Rattle.bit_rows.proofs.Tally.{tally-le-length}
-use Rattle.model.specs.Lists.{part, Within}
+use Rattle.model.specs.Lists.{part}
 use Rattle.model.specs.Rows.{row}
-use Rattle.model.proofs.Lists.{length-part, tally-within, within-part}
-use Rattle.model.proofs.Wavelet.Walk.{key}
-use Rattle.model.proofs.Wavelet.Rows.{key-half, key-lt, key-root, key-leaf, tally-before-root, count-start, count-middle}
+use Rattle.model.proofs.Lists.{within-at, length-part, tally-within, within-part}
+use Rattle.model.proofs.Wavelet.Walk.{key, pos}
+use Rattle.model.proofs.Wavelet.Rows.{row-length, row-pos-lt, row-bit, key-half, key-lt, key-root, key-leaf, tally-before-root, count-start, count-middle}
 use Rattle.wavelet.specs.declared.Span.{Span}
 use Rattle.wavelet.specs.declared.Halves.{Halves}
-use Rattle.wavelet.specs.Spans.{Ordered, halvesOf, halfOf, spanOf}
+use Rattle.wavelet.specs.Spans.{Ordered, halvesOf, halfOf, spanOf, spanAt}
+use Rattle.model.proofs.Wavelet.Rank.{tally-leaf}
+use Rattle.wavelet.specs.declared.Levels.{Levels}
+use Rattle.wavelet.specs.declared.Place.{Place}
+use Rattle.wavelet.specs.Levels.{entriesIn, levelOf}
+use Rattle.wavelet.proofs.Stored.{length-entriesIn, within-entriesIn}
 use Rattle.wavelet.proofs.Spans.{span-root, span-halves, span-count, span-ordered}
 
 -- a number by its half and its last bit
@@ -46,7 +51,7 @@ bits-le h v n = go (decLe (2 ^ h) v)
     go (no l) = absurd (n (div-eq-of-lt (omega arith)))
 
 -- the next bit of the code, as a bit of the next node
-next-bit : (h j v : ℕ) → j < h → v / 2 ^ (h - 1 - j) % 2 ≡ key h (suc j) v % 2
+pub next-bit : (h j v : ℕ) → j < h → v / 2 ^ (h - 1 - j) % 2 ≡ key h (suc j) v % 2
 next-bit h j v l =
     let e : h - 1 - j ≡ h - suc j = omega arith in
     ap (λ (n : ℕ). v / 2 ^ n % 2) e
@@ -70,53 +75,81 @@ module _ (h : ℕ) (xs : List ℕ) (a b v : ℕ) (lv : v < 2 ^ h) (j : ℕ) (l :
       ∙ (λ i. cond (eqb (key h (suc j) v % 2) 1) (spanOf h xs a b (suc j) (2 * key-half h j v l i + 1)) (spanOf h xs a b (suc j) (2 * key-half h j v l i)))
       ∙ by-bit (spanOf h xs a b (suc j)) (key h (suc j) v)
 
--- ---- entries below v
+-- ---- what is known on the way
 
--- at depth j: the node that holds v, and the range's entries in the nodes before it
-pub record Below (h : ℕ) (xs : List ℕ) (a b v j : ℕ) (s : Span) (below : ℕ) : Type 0 where
-  pub deep : j ≤ h
-  pub reached : s ≡ spanOf h xs a b j (key h j v)
-  pub counted : below ≡ tally (λ x. ltb (key h j x) (key h j v)) (part a b xs)
+-- at depth j: the node that holds v, with the range of the entries a up to but without b
+pub record Toward (bytes : List ℕ) (t : Levels) (a b v j : ℕ) (s : Span) : Type 0 where
+  pub deep : j ≤ t .height
+  pub reached : s ≡ spanOf (t .height) (entriesIn bytes t) a b j (key (t .height) j v)
 
-module _ (h : ℕ) (xs : List ℕ) (a b v : ℕ) (ab : a ≤ b) (bl : b ≤ length xs) where
-  -- all entries are below a number of more bits
-  pub below-all : Within (2 ^ h) xs → 2 ^ h ≤ v → b - a ≡ tally (λ x. ltb x v) (part a b xs)
-  below-all w l =
-      sym (tally-within (λ x. ltb x v) (2 ^ h) (λ x m. lt-ltb x v (le-trans m l)) (part a b xs) (within-part (2 ^ h) a b xs w) ∙ length-part a b xs bl)
+-- the same, with the range's entries in the nodes before it
+pub record Below (bytes : List ℕ) (t : Levels) (a b v j : ℕ) (s : Span) (below : ℕ) : Type 0 where
+  pub toward : Toward bytes t a b v j s
+  pub counted : below ≡ tally (λ x. ltb (key (t .height) j x) (key (t .height) j v)) (part a b (entriesIn bytes t))
 
-  pub below-root : Within (2 ^ h) xs → v < 2 ^ h → (n : ℕ) → length xs ≡ n → Below h xs a b v 0 (record { start = 0; lo = a; hi = b; end = n }) 0
-  below-root w lv n e = record {
+module _ (bytes : List ℕ) (t : Levels) (a b v : ℕ) (ab : a ≤ b) (bl : b ≤ t .entries) where
+  abbrev h : ℕ
+  h = t .height
+
+  abbrev xs : List ℕ
+  xs = entriesIn bytes t
+
+  size : length xs ≡ t .entries
+  size = length-entriesIn bytes t
+
+  inside : b ≤ length xs
+  inside = rw size bl
+
+  pub toward-root : v < 2 ^ h → Toward bytes t a b v 0 (record { start = 0; lo = a; hi = b; end = t .entries })
+  toward-root lv = record {
     deep = omega arith;
     reached =
-        (λ i. record { start = 0; lo = a; hi = b; end = sym e i }) ∙ sym (span-root h xs a b w (le-trans ab bl) bl) ∙ ap (spanOf h xs a b 0) (sym (key-root h v lv));
+        (λ i. record { start = 0; lo = a; hi = b; end = sym size i }) ∙ sym (span-root h xs a b (within-entriesIn bytes t) (le-trans ab inside) inside)
+        ∙ ap (spanOf h xs a b 0) (sym (key-root h v lv));
+  }
+
+  pub below-root : v < 2 ^ h → Below bytes t a b v 0 (record { start = 0; lo = a; hi = b; end = t .entries }) 0
+  below-root lv = record {
+    toward = toward-root lv;
     counted = sym (ap (λ (q : ℕ). tally (λ x. ltb (key h 0 x) q) (part a b xs)) (key-root h v lv) ∙ tally-before-root h (part a b xs));
   }
 
-  module _ {j : ℕ} {s : Span} {below : ℕ} (o : Below h xs a b v j s below) where
-    pub below-ordered : Ordered (length xs) s
-    below-ordered = subst (Ordered (length xs)) (sym (o .reached)) (span-ordered h xs a b j (key h j v) ab bl)
+  -- all entries are below a number of more bits
+  pub below-all : 2 ^ h ≤ v → b - a ≡ tally (λ x. ltb x v) (part a b xs)
+  below-all l =
+      sym (tally-within (λ x. ltb x v) (2 ^ h) (λ x m. lt-ltb x v (le-trans m l)) (part a b xs) (within-part (2 ^ h) a b xs (within-entriesIn bytes t))
+      ∙ length-part a b xs inside)
 
-    pub below-le : below ≤ b - a
-    below-le = omega (arith, o .counted, tally-le-length (λ x. ltb (key h j x) (key h j v)) (part a b xs), length-part a b xs bl)
+  module _ {j : ℕ} {s : Span} where
+    pub toward-ordered : Toward bytes t a b v j s → Ordered (t .entries) s
+    toward-ordered o = rw size at (subst (Ordered (length xs)) (sym (o .reached)) (span-ordered h xs a b j (key h j v) ab inside))
 
-    pub below-next : v < 2 ^ h → j < h
-        → Below h xs a b v (j + 1) (halfOf (halvesOf (row h j xs) s) (v / 2 ^ (h - 1 - j) % 2))
-        (below + v / 2 ^ (h - 1 - j) % 2 * (halvesOf (row h j xs) s .low .hi - halvesOf (row h j xs) s .low .lo))
-    below-next lv l = rw add-one (record {
-      deep = l;
-      reached = (λ i. halfOf (halvesOf (row h j xs) (o .reached i)) (e i)) ∙ toward h xs a b v lv j l;
-      counted = (λ i. o .counted i + e i * low i) ∙ go (ℕ-discrete (key h (suc j) v % 2) 1);
-    })
+    pub toward-next : v < 2 ^ h → j < h → Toward bytes t a b v j s → (bit : ℕ) → bit ≡ key h (suc j) v % 2
+        → Toward bytes t a b v (j + 1) (halfOf (halvesOf (levelOf bytes t j) s) bit)
+    toward-next lv l o bit e =
+        rw add-one
+        (record { deep = l; reached = (λ i. halfOf (halvesOf (row h j xs) (o .reached i)) (e i)) ∙ toward h xs a b v lv j l })
+
+    pub below-le : {below : ℕ} → Below bytes t a b v j s below → below ≤ b - a
+    below-le o = omega (arith, o .counted, tally-le-length (λ x. ltb (key h j x) (key h j v)) (part a b xs), length-part a b xs inside)
+
+    pub below-next : {below : ℕ} → v < 2 ^ h → j < h → Below bytes t a b v j s below
+        → Below bytes t a b v (j + 1) (halfOf (halvesOf (levelOf bytes t j) s) (v / 2 ^ (h - 1 - j) % 2))
+        (below + v / 2 ^ (h - 1 - j) % 2 * (halvesOf (levelOf bytes t j) s .low .hi - halvesOf (levelOf bytes t j) s .low .lo))
+    below-next lv l o = record {
+      toward = toward-next lv l (o .toward) (v / 2 ^ (h - 1 - j) % 2) e;
+      counted = rw add-one ((λ i. o .counted i + e i * low i) ∙ go (ℕ-discrete (key h (suc j) v % 2) 1));
+    }
       where
-        e : v / 2 ^ (h - 1 - j) % 2 ≡ key h (suc j) v % 2
-        e = next-bit h j v l
-
         p : List ℕ
         p = part a b xs
 
+        e : v / 2 ^ (h - 1 - j) % 2 ≡ key h (suc j) v % 2
+        e = next-bit h j v l
+
         low : halvesOf (row h j xs) s .low .hi - halvesOf (row h j xs) s .low .lo ≡ tally (λ x. eqb (key h (suc j) x) (2 * key h j v)) p
         low =
-            ap (λ (s : Span). halvesOf (row h j xs) s .low .hi - halvesOf (row h j xs) s .low .lo) (o .reached)
+            ap (λ (s : Span). halvesOf (row h j xs) s .low .hi - halvesOf (row h j xs) s .low .lo) (o .toward .reached)
             ∙ ap (λ (two : Halves). two .low .hi - two .low .lo) (toward-halves h xs a b v lv j l)
             ∙ span-count h xs a b (suc j) (2 * key h j v) ab
 
@@ -131,6 +164,68 @@ module _ (h : ℕ) (xs : List ℕ) (a b v : ℕ) (ab : a ≤ b) (bl : b ≤ leng
             let w : 2 * key h j v ≡ key h (suc j) v = omega (arith, key-half h j v l) in
             rw z (omega (arith, count-start h j l (key h j v) p, ap (λ (q : ℕ). tally (λ x. ltb (key h (suc j) x) q) p) w))
 
-  -- at the leaf
-  pub below-leaf : {s : Span} {below : ℕ} → Below h xs a b v h s below → below ≡ tally (λ x. ltb x v) (part a b xs)
-  below-leaf o = o .counted ∙ (λ i. tally (λ x. ltb (key-leaf h x i) (key-leaf h v i)) (part a b xs))
+    -- at the leaf
+    pub below-leaf : {below : ℕ} → j ≡ h → Below bytes t a b v j s below → below ≡ tally (λ x. ltb x v) (part a b xs)
+    below-leaf e o = o .counted ∙ (λ i. tally (λ x. ltb (key h (e i) x) (key h (e i) v)) (part a b xs)) ∙ (λ i. tally (λ x. ltb (key-leaf h x i) (key-leaf h v i)) (part a b xs))
+
+-- ---- one entry
+
+-- at depth j: the place of entry i in the node that holds it, and the bits that led there
+pub record Entry (bytes : List ℕ) (t : Levels) (i j : ℕ) (p : Place) (entry : ℕ) : Type 0 where
+  pub toward : Toward bytes t i i (getD (entriesIn bytes t) i 0) j (spanAt p)
+  pub bits : entry ≡ key (t .height) j (getD (entriesIn bytes t) i 0)
+
+module _ (bytes : List ℕ) (t : Levels) (i : ℕ) (l : i < t .entries) where
+  abbrev v : ℕ
+  v = getD (entriesIn bytes t) i 0
+
+  within : i < length (entriesIn bytes t)
+  within = rw (length-entriesIn bytes t) l
+
+  pub entry-lt : v < 2 ^ t .height
+  entry-lt = within-at (2 ^ t .height) (entriesIn bytes t) i (within-entriesIn bytes t) within
+
+  pub entry-root : Entry bytes t i 0 (record { start = 0; at = i; end = t .entries }) 0
+  entry-root = record { toward = toward-root bytes t i i v (le-refl i) (le-of-lt l) entry-lt; bits = sym (key-root (t .height) v entry-lt) }
+
+  module _ {j : ℕ} {p : Place} {entry : ℕ} (o : Entry bytes t i j p entry) where
+    pub entry-le : t .height ≤ 12 → entry < 4096
+    entry-le low =
+        let m : 2 ^ t .height ≤ 2 ^ 12 = pow-mono low in
+        omega (arith, o .bits, div-le-self v (2 ^ (t .height - j)), entry-lt)
+
+    pub entry-inside : j < t .height → p .at < t .entries
+    entry-inside lj =
+        let n = row-pos-lt (t .height) j (entriesIn bytes t) (key (t .height) j v) i (key-lt (t .height) j v (le-of-lt lj) entry-lt) within refl in
+        omega (
+          arith,
+          ap (λ (s : Span). s .lo) (o .toward .reached),
+          row-length (t .height) j (entriesIn bytes t) (le-of-lt lj) (within-entriesIn bytes t),
+          length-entriesIn bytes t,
+        )
+
+    pub entry-next : (lj : j < t .height) (r : Place) (bit : ℕ) → bit ≡ getD (levelOf bytes t j) (p .at) 0
+        → spanAt r ≡ halfOf (halvesOf (levelOf bytes t j) (spanAt p)) bit → Entry bytes t i (j + 1) r (2 * entry + bit)
+    entry-next lj r bit e f = record {
+      toward = rw f (toward-next bytes t i i v (le-refl i) (le-of-lt l) entry-lt lj (o .toward) bit g);
+      bits = rw add-one (omega (arith, g, o .bits, key-half (t .height) j v lj));
+    }
+      where
+        g : bit ≡ key (t .height) (suc j) v % 2
+        g =
+            e ∙ ap (λ (s : Span). getD (levelOf bytes t j) (s .lo) 0) (o .toward .reached)
+            ∙ row-bit (t .height) j (entriesIn bytes t) lj (key (t .height) j v) (key-lt (t .height) j v (le-of-lt lj) entry-lt) i within refl
+
+  pub entry-leaf : {p : Place} {entry : ℕ} {j : ℕ} → j ≡ t .height → Entry bytes t i j p entry → entry ≡ v
+  entry-leaf e o = o .bits ∙ ap (λ (n : ℕ). key (t .height) n v) e ∙ key-leaf (t .height) v
+
+-- ---- occurrences before a place
+
+-- the node of a value at the leaves, by the place i
+pub rank-leaf : (bytes : List ℕ) (t : Levels) (i v j : ℕ) (p : Place) → j ≡ t .height → Toward bytes t i i v j (spanAt p)
+    → p .at - p .start ≡ rank v (entriesIn bytes t) i
+rank-leaf bytes t i v j p e o =
+    let h : ℕ = t .height in
+    let xs : List ℕ = entriesIn bytes t in
+    ap (λ (s : Span). s .lo - s .start) (o .reached) ∙ (λ k. pos h xs (e k) (key h (e k) v) i - pos h xs (e k) (key h (e k) v) 0)
+    ∙ ap (λ (q : ℕ). pos h xs h q i - pos h xs h q 0) (key-leaf h v) ∙ omega (arith, tally-leaf h v (take i xs))

@@ -2,3 +2,5 @@
 pub mod Stored
 pub mod Spans
 pub mod Descents
+pub mod Ranges
+pub mod NextDocument

@@ -9,9 +9,9 @@ use Rattle.bit_rows.specs.Sequences.{rank}
 use Rattle.model.specs.Lists.{part, Within}
 use Rattle.model.specs.Rows.{row}
 use Rattle.model.specs.TopK.{node, countIn}
-use Rattle.model.proofs.Wavelet.Walk.{left, key}
+use Rattle.model.proofs.Wavelet.Walk.{zerosIn, left, key}
 use Rattle.model.proofs.Wavelet.Rows.{pos-root, row-left, row-right, row-start, row-middle, row-end}
-use Rattle.model.proofs.Wavelet.Counts.{node-count, pos-mono, pos-le-length, ones-step, left-mono, left-le, left-le-right, right-mono, right-le}
+use Rattle.model.proofs.Wavelet.Counts.{node-count, pos-mono, pos-le-length, ones-mono, ones-step, left-mono, left-le, left-le-right, right-mono, right-le}
 use Rattle.wavelet.specs.declared.Span.{Span}
 use Rattle.wavelet.specs.declared.Halves.{Halves}
 use Rattle.wavelet.specs.Spans.{Ordered, halvesOf, spanOf}
@@ -62,6 +62,21 @@ module _ (bits : List ℕ) (n : ℕ) (s : Span) (o : Ordered n s) where
         low = record { start = s .start; lo = lo i; hi = hi i; end = end i };
         high = record { start = end i; lo = end i + (pl i - pa i); hi = end i + (ph i - pa i); end = s .end };
       }
+
+  -- the range's entries in the low half are its zeros
+  left-add : (p : ℕ) → s .start ≤ p → left bits (s .start) p + rank 1 bits p ≡ p + rank 1 bits (s .start)
+  left-add p l = omega (arith, ones-mono bits (s .start) p l, ones-step bits (s .start) p l)
+
+  zeros-add : s .lo + zerosIn bits (s .lo) (s .hi) + rank 1 bits (s .hi) ≡ s .hi + rank 1 bits (s .lo)
+  zeros-add = omega (arith, ones-mono bits (s .lo) (s .hi) (o .range), ones-step bits (s .lo) (s .hi) (o .range))
+
+  pub low-zeros : halvesOf bits s .low .hi - halvesOf bits s .low .lo ≡ zerosIn bits (s .lo) (s .hi)
+  low-zeros =
+      go (left bits (s .start) (s .hi)) (left bits (s .start) (s .lo)) (zerosIn bits (s .lo) (s .hi)) (rank 1 bits (s .start)) (rank 1 bits (s .lo))
+      (rank 1 bits (s .hi)) (left-add (s .hi) start-hi) (left-add (s .lo) (o .from)) zeros-add
+    where
+      go : (x y z a l h : ℕ) → x + h ≡ s .hi + a → y + l ≡ s .lo + a → s .lo + z + h ≡ s .hi + l → x - y ≡ z
+      go x y z a l h p q r = omega arith
 
 -- ---- the nodes of a list of entries
 

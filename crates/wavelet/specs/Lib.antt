@@ -1,3 +1,4 @@
 -- What the contracts of wavelet cite.
 pub mod Levels
 pub mod Spans
+pub mod Ranges

@@ -7,6 +7,7 @@ use lib.Dec.{eqb}
 use Rattle.model.proofs.Wavelet.Walk.{left, right, pos}
 use Rattle.wavelet.specs.declared.Span.{Span}
 use Rattle.wavelet.specs.declared.Halves.{Halves}
+use Rattle.wavelet.specs.declared.Place.{Place}
 
 -- the places of a node in a level of n bits are in order
 pub record Ordered (n : ℕ) (s : Span) : Type 0 where
@@ -27,6 +28,10 @@ halvesOf bits s =
 -- the half that a bit leads to
 abbrev pub halfOf : Halves → ℕ → Span
 halfOf two bit = cond (eqb bit 1) (two .high) (two .low)
+
+-- a place in a node, as an empty range
+abbrev pub spanAt : Place → Span
+spanAt p = record { start = p .start; lo = p .at; hi = p .at; end = p .end }
 
 -- of entries below 2 ^ h: the node q of depth j, with the range of the entries a up to but without b
 abbrev pub spanOf : ℕ → List ℕ → ℕ → ℕ → ℕ → ℕ → Span

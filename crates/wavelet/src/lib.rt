@@ -1,11 +1,16 @@
 // Levels of rows as a wavelet tree. Counts and places of bits come from bit_rows' contracts alone.
+mod descent;
 mod level;
 mod node;
 mod range;
 
+pub use descent::access;
+pub use descent::rank;
 pub use node::half;
 pub use node::halve;
 pub use range::count_below;
+pub use range::next_document;
+pub use range::quantile;
 
 // Where the levels of a tree lie in a byte slice: how many entries, how many rows, and the offsets of the first samples and of the first row.
 pub struct Levels {
@@ -27,4 +32,23 @@ pub struct Span {
 pub struct Halves {
     pub low: Span,
     pub high: Span,
+}
+
+// A node's bounds in its level, and one place in it.
+pub struct Place {
+    pub start: usize,
+    pub at: usize,
+    pub end: usize,
+}
+
+// A document of a range, and how often it occurs there.
+pub struct Counted {
+    pub document: usize,
+    pub count: usize,
+}
+
+// What a search for the next document answers: the document with its count in the range, or nothing.
+pub enum Next {
+    Document { document: usize, count: usize },
+    Nothing,
 }

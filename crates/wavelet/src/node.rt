@@ -1,12 +1,13 @@
 // A node of the tree with a range in it, and the step to its halves.
 use crate::Halves;
 use crate::Levels;
+use crate::Place;
 use crate::Span;
 use crate::level::ones;
 ghost use mathlib.Core.Path.{_≡_};
 ghost use Prim.Native.Nat.{_<_};
 ghost use Rattle.wavelet.specs.Levels.{Stored, levelOf};
-ghost use Rattle.wavelet.specs.Spans.{Ordered, halvesOf, halfOf};
+ghost use Rattle.wavelet.specs.Spans.{Ordered, halvesOf, halfOf, spanAt};
 
 // The halves of a node of level j, in the level below.
 pub fn halve(bytes: &[u8], t: Levels, j: usize, s: Span) -> Halves
@@ -41,4 +42,29 @@ pub fn half(two: Halves, bit: usize) -> Span
     let low = two.low;
     let high = two.high;
     if bit == 1 { high } else { low }
+}
+
+// From a place of level j to its place in the half that a bit leads to.
+pub fn step(bytes: &[u8], t: Levels, j: usize, p: Place, bit: usize) -> Place
+    requires { ⌜ Stored (now bytes) t ⌝ }
+    requires { ⌜ (j < t .height) × Ordered (t .entries) (spanAt p) ⌝ }
+    ensures { λ r. ⌜ spanAt r ≡ halfOf (halvesOf (levelOf (now (bytes .entry)) t j) (spanAt p)) bit ⌝ }
+{
+    let before = ones(bytes, t, j, p.start);
+    let at = ones(bytes, t, j, p.at) - before;
+    let all = ones(bytes, t, j, p.end) - before;
+    let middle = p.end - all;
+    if bit == 1 {
+        Place {
+            start: middle,
+            at: middle + at,
+            end: p.end,
+        }
+    } else {
+        Place {
+            start: p.start,
+            at: p.at - at,
+            end: middle,
+        }
+    }
 }

@@ -1,14 +1,18 @@
 // Questions on the entries a up to but without b: how many are below a value, which has a rank, which comes next.
+use crate::Counted;
 use crate::Levels;
+use crate::Next;
 use crate::Span;
 use crate::node::half;
 use crate::node::halve;
 ghost use mathlib.Core.Path.{_≡_};
-ghost use Prim.Native.Nat.{_≤_, _<_};
+ghost use Prim.Native.Nat.{_-_, _^_, _≤_, _<_};
 ghost use lib.Dec.{ltb};
 ghost use Rattle.bit_rows.specs.Sequences.{tally};
 ghost use Rattle.model.specs.Lists.{part};
 ghost use Rattle.wavelet.specs.Levels.{Stored, entriesIn};
+ghost use Rattle.wavelet.specs.Spans.{Ordered};
+ghost use Rattle.wavelet.specs.Ranges.{leafOf, quantileIn, nextOf};
 
 // How many entries of the range are below v: down by the bits of v, the low half at each 1.
 pub fn count_below(bytes: &[u8], t: Levels, a: usize, b: usize, v: usize) -> usize
@@ -36,4 +40,63 @@ pub fn count_below(bytes: &[u8], t: Levels, a: usize, b: usize, v: usize) -> usi
         j += 1;
     }
     below
+}
+
+// The leaf of rank r in the range of the node q of level j: rows that remain fall at each call.
+fn leaf_of(bytes: &[u8], t: Levels, j: usize, q: usize, s: Span, r: usize) -> Counted
+    requires { ⌜ Stored (now bytes) t ⌝ }
+    requires { ⌜ (j ≤ t .height) × (q < 2 ^ j) × Ordered (t .entries) s ⌝ }
+    ensures { λ c. ⌜ c ≡ leafOf (now (bytes .entry)) t j q s r ⌝ }
+{
+    if j == t.height {
+        return Counted {
+            document: q,
+            count: s.hi - s.lo,
+        };
+    }
+    let two = halve(bytes, t, j, s);
+    let low = two.low;
+    let zeros = low.hi - low.lo;
+    let bit = (zeros <= r) as usize;
+    leaf_of(
+        bytes,
+        t,
+        j + 1,
+        2 * q + bit,
+        half(two, bit),
+        r - bit * zeros,
+    )
+}
+
+// The document of rank r in the range, and its count there.
+pub fn quantile(bytes: &[u8], t: Levels, a: usize, b: usize, r: usize) -> Counted
+    requires { ⌜ Stored (now bytes) t ⌝ }
+    requires { ⌜ (a ≤ b) × (b ≤ t .entries) × (r < b - a) ⌝ }
+    ensures { λ c. ⌜ c ≡ quantileIn (part a b (entriesIn (now (bytes .entry)) t)) r ⌝ }
+{
+    let s = Span {
+        start: 0,
+        lo: a,
+        hi: b,
+        end: t.entries,
+    };
+    leaf_of(bytes, t, 0, 0, s, r)
+}
+
+// The smallest document from v upward in the range: its rank there is the number of entries below v.
+pub fn next_document(bytes: &[u8], t: Levels, a: usize, b: usize, v: usize) -> Next
+    requires { ⌜ Stored (now bytes) t ⌝ }
+    requires { ⌜ (a ≤ b) × (b ≤ t .entries) ⌝ }
+    ensures { λ r. ⌜ r ≡ nextOf (t .height) v (part a b (entriesIn (now (bytes .entry)) t)) ⌝ }
+{
+    let below = count_below(bytes, t, a, b, v);
+    if below < b - a {
+        let found = quantile(bytes, t, a, b, below);
+        Next::Document {
+            document: found.document,
+            count: found.count,
+        }
+    } else {
+        Next::Nothing
+    }
 }

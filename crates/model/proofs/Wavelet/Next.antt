@@ -1,6 +1,6 @@
 -- The next document: the smallest number from v upward in a list is the entry whose rank is the number of entries below v.
-use Prim.Native.Nat.{ℕ, suc, _-_, _≤_, _<_}
-use mathlib.Core.Path.{_≡_, sym, ap, _∙_, subst}
+use Prim.Native.Nat.{ℕ, suc, _≤_, _<_}
+use mathlib.Core.Path.{_≡_}
 use mathlib.Core.List.{List}
 use native.Mathlib.Omega.{arith}
 use native.Mathlib.Decide.{decLe}
@@ -8,13 +8,7 @@ use lib.ListN.{length}
 use lib.Dec.{ltb}
 use Rattle.bit_rows.specs.Sequences.{tally, occurrences}
 use Rattle.bit_rows.proofs.Tally.{tally-le-length}
-use Rattle.model.specs.Lists.{part}
 use Rattle.model.specs.Queries.{quantile}
-use Rattle.model.proofs.Lists.{length-part}
-use Rattle.model.proofs.Wavelet.Walk.{countBelowWalk, quantileWalk}
-use Rattle.model.proofs.Wavelet.Rows.{RowsOf}
-use Rattle.model.proofs.Wavelet.CountBelow.{count-below-walk}
-use Rattle.model.proofs.Wavelet.Quantile.{quantile-walk}
 use Rattle.model.proofs.Wavelet.Sorted.{Ranked, quantile-ranked, tally-below-mono, tally-below-suc}
 
 -- d is the smallest number from v upward that occurs
@@ -45,19 +39,3 @@ next-is v xs l = go (quantile (tally (λ x. ltb x v) xs) xs) (quantile-ranked xs
 pub next-none : (v : ℕ) (xs : List ℕ) → length xs ≤ tally (λ x. ltb x v) xs → (w : ℕ) → v ≤ w → occurrences w xs ≡ 0
 next-none v xs l w k =
     omega (arith, tally-below-suc w xs, tally-below-mono v w xs k, tally-le-length (λ x. ltb x (suc w)) xs)
-
--- ---- by walks over the rows, in a part of the list
-
-module _ {h n : ℕ} {xs : List ℕ} {rows : ℕ → List ℕ} (R : RowsOf h n xs rows) (v a b : ℕ) (ab : a ≤ b) (l : b ≤ n) where
-  size : length (part a b xs) ≡ b - a
-  size = length-part a b xs (omega (arith, R .size))
-
-  pub next-walk : countBelowWalk rows h n v a b < b - a → Next v (part a b xs) (quantileWalk rows h n a b (countBelowWalk rows h n v a b))
-  next-walk m =
-      let e = count-below-walk R v a b ab l in
-      subst (Next v (part a b xs))
-      (sym (quantile-walk R a b ab (countBelowWalk rows h n v a b) l m ∙ ap (λ (r : ℕ). quantile r (part a b xs)) e))
-      (next-is v (part a b xs) (omega (arith, e, size)))
-
-  pub next-walk-none : b - a ≤ countBelowWalk rows h n v a b → (d : ℕ) → v ≤ d → occurrences d (part a b xs) ≡ 0
-  next-walk-none m = next-none v (part a b xs) (omega (arith, count-below-walk R v a b ab l, size))

@@ -61,19 +61,20 @@ countBelowFrom rows v (suc m) j s lo hi e =
 abbrev pub countBelowWalk : (ℕ → List ℕ) → ℕ → ℕ → ℕ → ℕ → ℕ → ℕ
 countBelowWalk rows h n v a b = cond (ltb v (2 ^ h)) (countBelowFrom rows v h 0 0 a b n) (b - a)
 
--- the entry of rank r among those from lo up to but without hi: in the node q
-abbrev pub quantileFrom : (ℕ → List ℕ) → ℕ → ℕ → ℕ → ℕ → ℕ → ℕ → ℕ → ℕ → ℕ
-quantileFrom rows zero j q s lo hi e r = q
-quantileFrom rows (suc m) j q s lo hi e r =
-    let b = rows j in
-    let mid = left b s e in
-    let zeros = zerosIn b lo hi in
-    let low = quantileFrom rows m (suc j) (2 * q) s (left b s lo) (left b s hi) mid r in
-    let high = quantileFrom rows m (suc j) (2 * q + 1) mid (right b s e lo) (right b s e hi) e (r - zeros) in
-    cond (ltb r zeros) low high
+module _ {A : Type 0} (leaf : ℕ → ℕ → A) where
+  -- the entry of rank r among those from lo up to but without hi, in the node q: what is made of it and of how many of them are like it
+  abbrev pub quantileFrom : (ℕ → List ℕ) → ℕ → ℕ → ℕ → ℕ → ℕ → ℕ → ℕ → ℕ → A
+  quantileFrom rows zero j q s lo hi e r = leaf q (hi - lo)
+  quantileFrom rows (suc m) j q s lo hi e r =
+      let b = rows j in
+      let mid = left b s e in
+      let zeros = zerosIn b lo hi in
+      let low = quantileFrom rows m (suc j) (2 * q) s (left b s lo) (left b s hi) mid r in
+      let high = quantileFrom rows m (suc j) (2 * q + 1) mid (right b s e lo) (right b s e hi) e (r - zeros) in
+      cond (ltb r zeros) low high
 
-abbrev pub quantileWalk : (ℕ → List ℕ) → ℕ → ℕ → ℕ → ℕ → ℕ → ℕ
-quantileWalk rows h n a b r = quantileFrom rows h 0 0 0 a b n r
+  abbrev pub quantileWalk : (ℕ → List ℕ) → ℕ → ℕ → ℕ → ℕ → ℕ → A
+  quantileWalk rows h n a b r = quantileFrom rows h 0 0 0 a b n r
 
 -- how far into the node the entry v stands that has k like it before it: down by the bits of v, and up by the places of the bits
 abbrev pub selectFrom : (ℕ → List ℕ) → ℕ → ℕ → ℕ → ℕ → ℕ → ℕ → ℕ

@@ -1,16 +1,12 @@
 use borrow.Author.Needs.{needs}
-use Prim.Native.Nat.{ℕ, _-_, _/_, _^_}
+use Prim.Native.Nat.{_-_, _/_, _^_}
 use native.Mathlib.Omega.{arith}
-use mathlib.Core.Path.{_≡_}
-use mathlib.Core.List.{List}
-use Rattle.wavelet.specs.Levels.{entriesIn}
-use Rattle.wavelet.proofs.Stored.{length-entriesIn, within-entriesIn}
-use Rattle.wavelet.proofs.Descents.{Below, bits-lt, bits-le, bit-mul-le, below-all, below-root, below-ordered, below-le, below-next, below-leaf}
+use Rattle.wavelet.proofs.Descents.{Below, bits-lt, bits-le, bit-mul-le, below-all, below-root, toward-ordered, below-le, below-next, below-leaf}
 use Rattle.wavelet.proofs.range.count_below.Statement.{statement}
 use Rattle.wavelet.proofs.range.count_below.Tie as tie
 
 abbrev Inv-loop : tie.InvT-loop
-Inv-loop bytes t a b v s₀ below₀ j₀ s below j = Below (t .height) (entriesIn bytes t) a b v j s below
+Inv-loop bytes t a b v s₀ below₀ j₀ s below j = Below bytes t a b v j s below
 
 abbrev μ-loop : tie.MeasureT-loop
 μ-loop bytes t a b v s₀ below₀ j₀ s below j = t .height - j
@@ -24,26 +20,22 @@ sub-result c = search needs
 returns : tie.Need-returns Inv-loop μ-loop
 returns c =
     let s = c .before .before .before in
-    let xs : List ℕ = entriesIn (s .args .bytes .now) (s .args .t) in
-    below-all (s .args .t .height) xs (s .args .a) (s .args .b) (s .args .v) (s .pre .1 .0) (rw length-entriesIn (s .pre .1 .1))
-    (within-entriesIn (s .args .bytes .now) (s .args .t)) (bits-le (s .args .t .height) (s .args .v) (c .if1 .taken))
+    let g = s .args in
+    below-all (g .bytes .now) (g .t) (g .a) (g .b) (g .v) (s .pre .1 .0) (s .pre .1 .1) (bits-le (g .t .height) (g .v) (c .if1 .taken))
 
 loop-holds : tie.Need-loop-holds Inv-loop μ-loop
 loop-holds c =
     let s = c .before .before .before in
-    let xs : List ℕ = entriesIn (s .args .bytes .now) (s .args .t) in
-    below-root (s .args .t .height) xs (s .args .a) (s .args .b) (s .args .v) (s .pre .1 .0) (rw length-entriesIn (s .pre .1 .1))
-    (within-entriesIn (s .args .bytes .now) (s .args .t)) (bits-lt (s .args .t .height) (s .args .v) (omega arith)) (s .args .t .entries)
-    (length-entriesIn (s .args .bytes .now) (s .args .t))
+    let g = s .args in
+    below-root (g .bytes .now) (g .t) (g .a) (g .b) (g .v) (s .pre .1 .0) (s .pre .1 .1) (bits-lt (g .t .height) (g .v) (omega arith))
 
 halve-requires : tie.Need-halve-requires Inv-loop μ-loop
 halve-requires c κs =
     let s = c .before .before .before .before .before .before in
-    let xs : List ℕ = entriesIn (s .args .bytes .now) (s .args .t) in
-    let o =
-    below-ordered (s .args .t .height) xs (s .args .a) (s .args .b) (s .args .v) (s .pre .1 .0) (rw length-entriesIn (s .pre .1 .1))
-    (c .before .before .loop .inv) in
-    (s .pre .0, (c .if2 .taken, rw length-entriesIn at o))
+    let g = s .args in (
+      s .pre .0,
+      (c .if2 .taken, toward-ordered (g .bytes .now) (g .t) (g .a) (g .b) (g .v) (s .pre .1 .0) (s .pre .1 .1) (c .before .before .loop .inv .toward)),
+    )
 
 sub-bit : tie.Need-sub-bit Inv-loop μ-loop
 sub-bit c = search needs
@@ -60,19 +52,18 @@ sub-below c = search needs
 mul-below : tie.Need-mul-below Inv-loop μ-loop
 mul-below c =
     let k = c .before .before .before .before .before .before in
-    let s = k .before .before .before .before in
+    let g = k .before .before .before .before .args in
     let low = c .before .before .before .halve .result .low in
-    omega (arith, bit-mul-le (s .args .v / 2 ^ (s .args .t .height - 1 - k .loop .j)) (low .hi - low .lo))
+    omega (arith, bit-mul-le (g .v / 2 ^ (g .t .height - 1 - k .loop .j)) (low .hi - low .lo))
 
 add-below : tie.Need-add-below Inv-loop μ-loop
 add-below c =
     let k = c .before .before .before .before .before .before in
     let s = k .before .before .before .before in
-    let xs : List ℕ = entriesIn (s .args .bytes .now) (s .args .t) in
+    let g = s .args in
     let low = c .before .before .before .halve .result .low in
-    let l =
-    below-le (s .args .t .height) xs (s .args .a) (s .args .b) (s .args .v) (s .pre .1 .0) (rw length-entriesIn (s .pre .1 .1)) (k .loop .inv) in
-    omega (arith, bit-mul-le (s .args .v / 2 ^ (s .args .t .height - 1 - k .loop .j)) (low .hi - low .lo))
+    let l = below-le (g .bytes .now) (g .t) (g .a) (g .b) (g .v) (s .pre .1 .0) (s .pre .1 .1) (k .loop .inv) in
+    omega (arith, bit-mul-le (g .v / 2 ^ (g .t .height - 1 - k .loop .j)) (low .hi - low .lo))
 
 half-requires : tie.Need-half-requires Inv-loop μ-loop
 half-requires c κs = search needs
@@ -87,19 +78,16 @@ loop-again : tie.Need-loop-again Inv-loop μ-loop
 loop-again c =
     let k = c .before .before .before .before .before .before .before in
     let s = k .before .before .before .before in
-    let xs : List ℕ = entriesIn (s .args .bytes .now) (s .args .t) in
+    let g = s .args in
     rw (c .half .ensures, c .before .before .before .before .halve .ensures .0)
-    (below-next (s .args .t .height) xs (s .args .a) (s .args .b) (s .args .v) (s .pre .1 .0) (rw length-entriesIn (s .pre .1 .1)) (k .loop .inv)
-    (bits-lt (s .args .t .height) (s .args .v) (omega arith)) (omega arith))
+    (below-next (g .bytes .now) (g .t) (g .a) (g .b) (g .v) (s .pre .1 .0) (s .pre .1 .1) (bits-lt (g .t .height) (g .v) (omega arith)) (omega arith) (k .loop .inv))
 
 returns-2 : tie.Need-returns-2 Inv-loop μ-loop
 returns-2 c =
     let k = c .before .before in
     let s = k .before .before .before .before in
-    let xs : List ℕ = entriesIn (s .args .bytes .now) (s .args .t) in
-    let e : k .loop .j ≡ s .args .t .height = omega arith in
-    below-leaf (s .args .t .height) xs (s .args .a) (s .args .b) (s .args .v) (s .pre .1 .0) (rw length-entriesIn (s .pre .1 .1))
-    (rw e at (k .loop .inv))
+    let g = s .args in
+    below-leaf (g .bytes .now) (g .t) (g .a) (g .b) (g .v) (s .pre .1 .0) (s .pre .1 .1) (omega arith) (k .loop .inv)
 
 pub count-below-spec : {M : Type 1} → statement M
 count-below-spec =
