@@ -1,6 +1,6 @@
 -- The place that `select` finds: what stands there, and how many like it stand before it.
 use Prim.Native.Nat.{ℕ, zero, suc, _+_, _-_, _≤_, _<_, zero-le, suc-le-suc}
-use mathlib.Core.Path.{_≡_, refl, sym, ap, _∙_}
+use mathlib.Core.Path.{_≡_, refl, sym, ap, _∙_, subst}
 use mathlib.Core.List.{List, [], _∷_}
 use mathlib.Core.Bool.{Bool, true, false, cond, _&&_}
 use native.Mathlib.Nat.{not-suc-le-zero, le-of-suc-le-suc}
@@ -29,6 +29,22 @@ select-none v [] j h = refl
 select-none v (x ∷ xs) j h =
     later (eqb v x) j 0 (suc (select v xs (j - bit (eqb v x)))) (λ t o. omega (arith, ap bit t))
     ∙ ap suc (select-none v xs (j - bit (eqb v x)) (omega arith))
+
+pub select-le : (v : ℕ) (xs : List ℕ) (j : ℕ) → select v xs j ≤ length xs
+select-le v [] j = zero-le
+select-le v (x ∷ xs) j = go (eqb v x && eqb j 1) (select-le v xs (j - bit (eqb v x)))
+  where
+    go : (b : Bool) → select v xs (j - bit (eqb v x)) ≤ length xs → cond b 0 (suc (select v xs (j - bit (eqb v x)))) ≤ suc (length xs)
+    go true l = zero-le
+    go false l = suc-le-suc l
+
+-- not before s, where fewer than j stand before s
+pub select-ge : (v : ℕ) (xs : List ℕ) (s j : ℕ) → s ≤ length xs → rank v xs s < j → s ≤ select v xs j
+select-ge v xs zero j l m = zero-le
+select-ge v [] (suc s) j l m = absurd (not-suc-le-zero l)
+select-ge v (x ∷ xs) (suc s) j l m =
+    subst (λ (n : ℕ). suc s ≤ n) (sym (later (eqb v x) j 0 (suc (select v xs (j - bit (eqb v x)))) (λ t o. omega (arith, ap bit t))))
+    (suc-le-suc (select-ge v xs s (j - bit (eqb v x)) (le-of-suc-le-suc l) (omega arith)))
 
 -- the j-th element v stands at p
 pub record Placed (v : ℕ) (xs : List ℕ) (j p : ℕ) : Type 0 where
