@@ -35,6 +35,21 @@ inline size_t select(const u8 *samples, const u8 *row, size_t n, int v, size_t j
     if (c + here >= j) break;
     c += here;
   }
+  if (k + 8 <= end) {
+    u64 x = word(row + k);
+    size_t i = 8 * k;
+    for (size_t w = 32; w; w /= 2) {
+      size_t here = ones(x & (((u64)1 << w) - 1));
+      if (!v) here = w - here;
+      size_t behind = c + here < j;
+      x >>= w * behind;
+      i += w * behind;
+      c += here * behind;
+    }
+    for (; i < n; i++)
+      if ((row[i / 8] >> i % 8 & 1) == v && ++c == j) return i;
+    return n;
+  }
   for (; k < end; k++) {
     size_t here = ones(row[k]);
     if (!v) here = 8 - here;

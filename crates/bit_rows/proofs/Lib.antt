@@ -4,4 +4,5 @@ pub mod Bits
 pub mod Samples
 pub mod Stores
 pub mod Search
+pub mod Words
 pub mod Near
