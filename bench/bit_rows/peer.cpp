@@ -22,10 +22,11 @@ inline size_t from_sample(const u8 *samples, const u8 *row, size_t i) {
 
 inline size_t select(const u8 *samples, const u8 *row, size_t n, int v, size_t j) {
   if (j == 0 || n == 0) return n;
-  size_t lo = 0, hi = (n + 511) / 512, end = (n + 7) / 8;
-  while (hi - lo > 1) {
-    size_t mid = lo + (hi - lo) / 2, c = number(samples + 4 * mid);
-    if ((v ? c : 512 * mid - c) < j) lo = mid; else hi = mid;
+  size_t lo = 0, end = (n + 7) / 8;
+  for (size_t len = (n + 511) / 512; len > 1;) {
+    size_t half = len / 2, c = number(samples + 4 * (lo + half));
+    lo += half * ((v ? c : 512 * (lo + half) - c) < j);
+    len -= half;
   }
   size_t c = number(samples + 4 * lo), k = 64 * lo;
   if (!v) c = 512 * lo - c;

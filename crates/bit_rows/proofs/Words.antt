@@ -22,6 +22,12 @@ pub times-le : (b : Bool) (x : ℕ) → timesOf b x ≤ x
 times-le true x = omega arith
 times-le false x = omega arith
 
+-- half of the blocks are passed where fewer than j bits stand before the middle
+pub halve-step : (v : ℕ) (row : List ℕ) (j lo half x : ℕ) → x ≡ countBelow v row (512 * (lo + half)) → countBelow v row (512 * lo) < j
+    → (b : Bool) → ltb x j ≡ b → countBelow v row (512 * (lo + timesOf b half)) < j
+halve-step v row j lo half x e h true t = omega (arith, ltb-true x j t)
+halve-step v row j lo half x e h false t = rw (add-zero lo) h
+
 module _ (row : List ℕ) (bytes : (i : ℕ) → getD row i 0 < 256) where
   -- w bits from bit s of the word at byte k on
   count-in-word : (v k s w : ℕ) → v < 2 → s + w ≤ 64

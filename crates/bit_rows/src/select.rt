@@ -32,6 +32,13 @@ fn of_kind(v: u8, i: usize, n: usize) -> usize
     if v == 0 { i - n } else { n }
 }
 
+// x where the test holds, else 0.
+fn times(x: usize, test: bool) -> usize
+    ensures { λ r. ⌜ (r ≡ timesOf test x) × (r ≤ x) ⌝ }
+{
+    x * (test as usize)
+}
+
 // Of the bits below sample t, how many are v.
 fn sampled(samples: &[u8], row: &[u8], n: usize, v: u8, t: usize) -> usize
     requires { ⌜ Sampled n (now samples) (now row) ⌝ }
@@ -41,21 +48,19 @@ fn sampled(samples: &[u8], row: &[u8], n: usize, v: u8, t: usize) -> usize
     of_kind(v, 512 * t, number(samples, 4 * t))
 }
 
-// The last block before which fewer than j bits are v.
+// The last block before which fewer than j bits are v, by halving without a branch.
 fn block_of(samples: &[u8], row: &[u8], n: usize, v: u8, j: usize) -> usize
     requires { ⌜ Sampled n (now samples) (now row) ⌝ }
     requires { ⌜ (v < 2) × (0 < n) × (0 < j) ⌝ }
     ensures { λ r. ⌜ (r < sampleCount n) × (countBelow v (now (row .entry)) (512 * r) < j) ⌝ }
 {
     let mut lo: usize = 0;
-    let mut hi = (n + 511) / 512;
-    while 1 < hi - lo {
-        let mid = lo + (hi - lo) / 2;
-        if sampled(samples, row, n, v, mid) < j {
-            lo = mid;
-        } else {
-            hi = mid;
-        }
+    let mut len = (n + 511) / 512;
+    while 1 < len {
+        let half = len / 2;
+        let less = sampled(samples, row, n, v, lo + half) < j;
+        lo += times(half, less);
+        len -= half;
     }
     lo
 }
@@ -108,13 +113,6 @@ fn skip_bytes(row: &[u8], n: usize, v: u8, from: Scan, j: usize) -> Scan
         byte: k,
         before: count,
     }
-}
-
-// x where the test holds, else 0.
-fn times(x: usize, test: bool) -> usize
-    ensures { λ r. ⌜ (r ≡ timesOf test x) × (r ≤ x) ⌝ }
-{
-    x * (test as usize)
 }
 
 // Drops the w lowest of the bits that are left where the wanted bit lies behind them; no branch tells the two apart.
