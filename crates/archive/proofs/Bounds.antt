@@ -1,10 +1,8 @@
 -- How large the parts of an archive within the limits can be.
-use Prim.Native.Nat.{ℕ, _+_, _*_, _%_, _^_, _≤_, _<_}
-use mathlib.Core.Path.{_≡_, ap, _∙_}
+use Prim.Native.Nat.{ℕ, _+_, _*_, _≤_}
+use mathlib.Core.Path.{_≡_, ap}
 use native.Mathlib.Omega.{arith}
 use native.Mathlib.Nat.{mul-le-mul}
-use lib.Pow.{pow-mono, shl-exact}
-use lib.Dec.{lit<}
 use Rattle.bit_rows.specs.Bits.{rowBytes, sampleCount}
 use Rattle.model.specs.Rows.{height}
 use Rattle.model.proofs.Height.{height-le-12}

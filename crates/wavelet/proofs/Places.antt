@@ -18,7 +18,9 @@ use Rattle.bit_rows.specs.declared.Found.the-variants.{At, Nothing}
 use Rattle.bit_rows.proofs.Tally.{tally-le-length}
 use Rattle.model.proofs.Wavelet.Walk.{left, selectFrom}
 use Rattle.model.proofs.Wavelet.Rows.{row-length, row-below}
-use Rattle.model.proofs.Wavelet.Place.{select-le, select-ge, select-none, select-placed, zeros-front}
+use Rattle.bit_rows.proofs.Sequences.{select-le, select-none}
+use Rattle.model.proofs.Wavelet.Rows.{rows-of}
+use Rattle.model.proofs.Wavelet.Place.{select-ge, select-placed, zeros-front}
 use Rattle.model.proofs.Wavelet.Select.{select-walk}
 use Rattle.wavelet.specs.declared.Levels.{Levels}
 use Rattle.wavelet.specs.Levels.{entriesIn, levelOf}
@@ -121,4 +123,4 @@ module _ (bytes : List ℕ) (t : Levels) (d i : ℕ) (l : 0 < i) where
       rw (lt-ltb (select d (entriesIn bytes t) i) (t .entries) (rw (length-entriesIn bytes t) at p))
       (ap At
       ((λ k. selectFrom (levelOf bytes t) d (sub-zero (t .height) k) 0 0 (sym (length-entriesIn bytes t) k) (i - 1))
-      ∙ select-walk (t .height) (entriesIn bytes t) (within-entriesIn bytes t) d i l o))
+      ∙ select-walk (rows-of (t .height) (entriesIn bytes t) (within-entriesIn bytes t)) d i l o))

@@ -1,7 +1,4 @@
 use Rattle.archive.proofs.Bounds.{samples-bound}
-use Prim.Native.Nat.{ℕ, _+_, _-_, _*_, _/_, _^_, _≤_, _<_}
-use mathlib.Core.Path.{_≡_, refl, sym, ap, _∙_}
-use lib.ListN.{length, getD, take, drop, set, length-set}
 use native.Mathlib.Omega.{arith}
 use borrow.Author.Needs.{needs}
 use Rattle.archive.proofs.offsets.layout_of.Statement.{statement}

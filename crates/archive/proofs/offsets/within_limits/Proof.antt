@@ -1,5 +1,4 @@
 use borrow.Author.Tests.{le-leb, lt-leb}
-use borrow.Author.Needs.{needs}
 use Rattle.archive.proofs.offsets.within_limits.Statement.{statement}
 use Rattle.archive.proofs.offsets.within_limits.Tie as tie
 use Rattle.archive.proofs.offsets.within_limits.Reads as reads
