@@ -1,2 +1,4 @@
 -- What the contracts of archive cite, beside the definitions of model.
 pub mod Layout
+pub mod Keys
+pub mod Writing

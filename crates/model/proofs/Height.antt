@@ -42,5 +42,12 @@ heightFrom-le (suc tries) h N g l m = go (look (leb N (2 ^ h))) (heightFrom-le t
 pub height-le : (N g : ℕ) → N ≤ 2 ^ g → height N ≤ g
 height-le N g l = heightFrom-le N 0 N g zero-le l
 
+pub lt-height : (N h : ℕ) → 2 ^ h < N → h < height N
+lt-height N h l = go (decLe (suc h) (height N))
+  where
+    go : Dec (h < height N) → h < height N
+    go (yes k) = k
+    go (no k) = let p : 2 ^ height N ≤ 2 ^ h = pow-mono (omega arith) in omega (arith, le-pow-height N)
+
 pub height-le-12 : (N : ℕ) → N ≤ 4096 → height N ≤ 12
 height-le-12 N l = height-le N 12 l

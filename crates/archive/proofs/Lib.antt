@@ -1,0 +1,9 @@
+-- Laws of the writer and the reader.
+pub mod Assembly
+pub mod Bounds
+pub mod Counters
+pub mod Filling
+pub mod Leveling
+pub mod Numbers
+pub mod Overwrite
+pub mod Refusals
