@@ -4,3 +4,10 @@ pub mod Parts
 pub mod Acceptance
 pub mod TermTable
 pub mod Opened
+pub mod Assembly
+pub mod Counters
+pub mod Filling
+pub mod Leveling
+pub mod Numbers
+pub mod Overwrite
+pub mod Refusals
