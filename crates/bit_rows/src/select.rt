@@ -48,7 +48,7 @@ fn sampled(samples: &[u8], row: &[u8], n: usize, v: u8, t: usize) -> usize
     of_kind(v, 512 * t, number(samples, 4 * t))
 }
 
-// The last block before which fewer than j bits are v, by halving without a branch.
+// The last block before which fewer than j bits are v, by halving.
 fn block_of(samples: &[u8], row: &[u8], n: usize, v: u8, j: usize) -> usize
     requires { ⌜ Sampled n (now samples) (now row) ⌝ }
     requires { ⌜ (v < 2) × (0 < n) × (0 < j) ⌝ }
