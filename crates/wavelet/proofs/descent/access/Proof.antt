@@ -23,7 +23,7 @@ bit-requires : tie.Need-bit-requires Inv-loop μ-loop
 bit-requires c κs =
     let k = c .before .before in
     let s = k .before .before in
-    (s .pre .0, (c .if1 .taken, entry-inside (s .args .bytes .now) (s .args .t) (s .args .i) (s .pre .1) (k .loop .inv) (c .if1 .taken)))
+    (s .pre .0, (omega arith, entry-inside (s .args .bytes .now) (s .args .t) (s .args .i) (s .pre .1) (k .loop .inv) (c .if1 .taken)))
 
 cast-b : tie.Need-cast-b Inv-loop μ-loop
 cast-b c = search needs

@@ -58,7 +58,8 @@ sub-result c =
     let k = c .before .before .before in
     let s = k .before .before in
     let g = s .args in
-    toward-ordered (g .bytes .now) (g .t) (g .i) (g .i) (g .d) (le-refl (g .i)) (s .pre .1 .1) (k .loop .inv) .from
+    let o = toward-ordered (g .bytes .now) (g .t) (g .i) (g .i) (g .d) (le-refl (g .i)) (s .pre .1 .1) (k .loop .inv) in
+    omega arith
 
 returns : tie.Need-returns Inv-loop μ-loop
 returns c =

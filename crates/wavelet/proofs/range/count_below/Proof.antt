@@ -34,7 +34,7 @@ halve-requires c κs =
     let s = c .before .before .before .before .before .before in
     let g = s .args in (
       s .pre .0,
-      (c .if2 .taken, toward-ordered (g .bytes .now) (g .t) (g .a) (g .b) (g .v) (s .pre .1 .0) (s .pre .1 .1) (c .before .before .loop .inv .toward)),
+      (omega arith, toward-ordered (g .bytes .now) (g .t) (g .a) (g .b) (g .v) (s .pre .1 .0) (s .pre .1 .1) (c .before .before .loop .inv .toward)),
     )
 
 sub-bit : tie.Need-sub-bit Inv-loop μ-loop
