@@ -2,3 +2,4 @@
 pub mod Layout
 pub mod Keys
 pub mod Writing
+pub mod Reading

@@ -4,10 +4,12 @@ use wavelet::Levels;
 mod keys;
 mod offsets;
 mod put;
+mod reader;
 mod writer;
 
 pub use offsets::archive_length;
 pub use offsets::layout_of;
+pub use reader::read_opened;
 pub use writer::write;
 
 // The layout of an opened archive: N, W, and where its levels lie, n and h with them.
