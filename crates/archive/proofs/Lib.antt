@@ -5,7 +5,9 @@ pub mod Acceptance
 pub mod TermTable
 pub mod Opened
 pub mod Assembly
+pub mod Contents
 pub mod Counters
+pub mod Descending
 pub mod Filling
 pub mod Leveling
 pub mod Numbers
