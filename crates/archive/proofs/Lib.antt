@@ -4,3 +4,4 @@ pub mod Parts
 pub mod Acceptance
 pub mod TermTable
 pub mod Opened
+pub mod Demand2
