@@ -13,3 +13,4 @@ pub mod Leveling
 pub mod Numbers
 pub mod Overwrite
 pub mod Refusals
+pub mod Demand2

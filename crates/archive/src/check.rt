@@ -111,12 +111,12 @@ fn unused_hold(archive: &[u8], t: Levels) -> bool
     requires { ⌜ Placed (now archive) t ⌝ }
     ensures { λ r. ⌜ r ≡ all (clearAt (now (archive .entry)) t) (below (t .height)) ⌝ }
 {
-    let mut j: usize = 0;
-    while j < t.height {
-        if !row_clear(archive, t, j) {
+    let mut i: usize = 0;
+    while i < t.height {
+        if !row_clear(archive, t, i) {
             return false;
         }
-        j += 1;
+        i += 1;
     }
     true
 }
