@@ -5,3 +5,7 @@ pub mod Held
 pub mod Probed
 pub mod Rounds
 pub mod Theorem
+pub mod Slices
+pub mod Shifting
+pub mod Entering
+pub mod Steps

@@ -4,7 +4,7 @@ use native.Mathlib.Omega.{arith}
 use mathlib.Core.Path.{_≡_, refl, sym, ap, _∙_}
 use mathlib.Core.Logic.{_⊎_, inl, inr}
 use mathlib.Core.List.{List, [], _∷_, _++_, map}
-use mathlib.Core.Bool.{Bool, true, false, not, cond, _&&_, and-false}
+use mathlib.Core.Bool.{Bool, true, false, not, _&&_, and-false}
 use lib.ListN.{length, getD, take, length-take, length-map}
 use lib.Seq.{take-nil}
 use lib.Dec.{ltb, eqb}
@@ -14,7 +14,7 @@ use Rattle.bit_rows.proofs.Tests.{look}
 use Rattle.bit_rows.proofs.Tally.{tally-append, tally-sum, tally-none, tally-le-length, tally-map, length-upFrom}
 use Rattle.model.specs.Lists.{keep}
 use Rattle.model.specs.Queries.{Pair, pairOf, present, listing}
-use Rattle.model.specs.TopK.{ahead, ranking, fullList}
+use Rattle.model.specs.TopK.{ranking, fullList}
 use Rattle.model.proofs.Lists.{length-keep, tally-keep}
 use Rattle.model.proofs.Sorting.{Same, same-length, Every, every-head, every-tail, Sorted, sorted-take}
 use Rattle.model.proofs.Ranking.{aheadPair, ranking-sorted, ranking-same, ranking-unique}

@@ -29,6 +29,10 @@ pub record Sweeping (N k : ℕ) (xs : List ℕ) (g r : ℕ) (seen : ℕ → Bool
   pub rank : suc r ≡ 2 * (turn * g) + g
   pub probed : Probed xs g r seen
 
+-- another round is to come after the one with step g
+abbrev pub goesOn : ℕ → ℕ → List Pair → Bool
+goesOn k g candidates = ltb 1 g && not (settled k g candidates)
+
 -- nothing is probed, and the step is more than the size
 pub swept-start : (N k : ℕ) (xs : List ℕ) (g : ℕ) → length xs < g → Swept N k xs g unseen []
 swept-start N k xs g l = record { held = held-start N k xs; probed = λ c a m. absurd (omega arith) }
@@ -88,8 +92,7 @@ module _ (N k : ℕ) (xs : List ℕ) (g : ℕ) (pos : 0 < g) (seen : ℕ → Boo
       some [] f l = absurd (omega arith)
       some (c ∷ cs) f l = omega arith
 
-  -- where no round follows
-  pub swept-stop : (ltb 1 g && not (settled k g candidates)) ≡ false → Swept N k xs g seen candidates → candidates ≡ fullList N k xs
+  pub swept-stop : goesOn k g candidates ≡ false → Swept N k xs g seen candidates → candidates ≡ fullList N k xs
   swept-stop e s = go (and-cases (ltb 1 g) (not (settled k g candidates)) e)
     where
       go : (ltb 1 g ≡ false) ⊎ (not (settled k g candidates) ≡ false) → candidates ≡ fullList N k xs
