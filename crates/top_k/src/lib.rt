@@ -1,3 +1,4 @@
-// Top-k: the first documents of the ranking of a range. So far the candidates of probing and the clearing of the work slice.
+// Top-k: the first documents of the ranking of a range. So far what probing does with its lent slices.
 mod candidates;
 mod clear;
+mod rounds;

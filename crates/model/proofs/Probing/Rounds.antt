@@ -34,13 +34,13 @@ abbrev pub goesOn : ℕ → ℕ → List Pair → Bool
 goesOn k g candidates = ltb 1 g && not (settled k g candidates)
 
 -- nothing is probed, and the step is more than the size
-pub swept-start : (N k : ℕ) (xs : List ℕ) (g : ℕ) → length xs < g → Swept N k xs g unseen []
-swept-start N k xs g l = record { held = held-start N k xs; probed = λ c a m. absurd (omega arith) }
+pub swept-start : {N k : ℕ} {xs : List ℕ} {g : ℕ} → length xs < g → Swept N k xs g unseen []
+swept-start {N} {k} {xs} {g} l = record { held = held-start N k xs; probed = λ c a m. absurd (omega arith) }
 
 probed-mark : (xs : List ℕ) (g r : ℕ) (seen : ℕ → Bool) (d : ℕ) → Probed xs g r seen → Probed xs g r (mark d seen)
 probed-mark xs g r seen d h c l m = or-right (eqb d (quantile (c * g + g - 1) xs)) (seen (quantile (c * g + g - 1) xs)) (h c l m)
 
-module _ (N k : ℕ) (xs : List ℕ) (g : ℕ) (pos : 0 < g) (seen : ℕ → Bool) (candidates : List Pair) where
+module _ {N k : ℕ} {xs : List ℕ} {g : ℕ} (pos : 0 < g) {seen : ℕ → Bool} {candidates : List Pair} where
   -- ---- a round
 
   pub sweeping-start : Swept N k xs (2 * g) seen candidates → Sweeping N k xs g (g - 1) seen candidates

@@ -7,20 +7,21 @@ use mathlib.Core.Path.{_≡_, refl, sym, ap, _∙_}
 use mathlib.Core.Logic.{_⊎_, inl, inr}
 use mathlib.Core.List.{List}
 use mathlib.Core.Bool.{Bool, true, false, not}
-use lib.ListN.{length, getD, set, length-take}
+use lib.ListN.{length, getD, drop, set, length-take}
+use lib.Seq.{drop-set-lt}
 use lib.Dec.{leb, ltb}
-use borrow.Author.Tests.{eq-eqb, ne-eqb, lt-ltb, le-ltb, lt-leb, le-leb}
+use borrow.Author.Tests.{ltb-true, eq-eqb, ne-eqb, lt-ltb, le-ltb, lt-leb, le-leb}
 use Rattle.bit_rows.specs.Sequences.{occurrences}
-use Rattle.bit_rows.proofs.Tests.{le-or-lt}
-use Rattle.model.specs.Lists.{Within}
-use Rattle.model.specs.Queries.{quantile, pairOf}
-use Rattle.model.specs.TopK.{insertPair}
+use Rattle.bit_rows.proofs.Tests.{and-both, le-or-lt}
+use Rattle.model.specs.Lists.{Within, overwrite}
+use Rattle.model.specs.Queries.{quantile, Pair, flat, pairOf}
+use Rattle.model.specs.TopK.{insertPair, fullList}
 use Rattle.model.proofs.Probing.Method.{pair, enter, mark, settled}
 use Rattle.model.proofs.Probing.Insertion.{length-insert}
 use Rattle.model.proofs.Probing.Held.{held-sorted, held-few}
 use Rattle.model.proofs.Probing.Probed.{quantile-within}
-use Rattle.model.proofs.Probing.Rounds.{Swept, Sweeping, goesOn, sweeping-again, sweeping-new}
-use Rattle.model.proofs.Probing.Slices.{pairsIn, length-pairs, getD-pairs, marked, marked-at, marked-set}
+use Rattle.model.proofs.Probing.Rounds.{Swept, Sweeping, goesOn, swept-stop, sweeping-again, sweeping-new}
+use Rattle.model.proofs.Probing.Slices.{pairsIn, length-pairs, getD-pairs, overwrite-pairs, drop-more, marked, marked-at, marked-set}
 use Rattle.model.proofs.Probing.Entering.{Room, Entered}
 
 -- the entries are documents below N, and the slices have the room that was asked for
@@ -30,9 +31,28 @@ pub record Lent (N k : ℕ) (xs work out : List ℕ) : Type 0 where
   pub places : N ≤ length work
   pub room : 2 * min k N ≤ length out
 
-module _ (N k : ℕ) (xs work out : List ℕ) (lent : Lent N k xs work out) where
-  pub lent-same : (work′ out′ : List ℕ) → length work′ ≡ length work → length out′ ≡ length out → Lent N k xs work′ out′
-  lent-same work′ out′ a b = record {
+-- from n pairs held to m: behind the pairs and behind the marks nothing has changed
+pub record Kept (N n m : ℕ) (work out work′ out′ : List ℕ) : Type 0 where
+  pub more : n ≤ m
+  pub marks : drop N work′ ≡ drop N work
+  pub rest : drop (2 * m) out′ ≡ drop (2 * m) out
+
+pub kept-refl : (N n : ℕ) (work out : List ℕ) → Kept N n n work out work out
+kept-refl N n work out = record { more = omega arith; marks = refl; rest = refl }
+
+pub kept-trans : {N n m l : ℕ} {a b c d e f : List ℕ} → Kept N n m a b c d → Kept N m l c d e f → Kept N n l a b e f
+kept-trans {N} {n} {m} {l} {a} {b} {c} {d} {e} {f} p q =
+    let x = p .more in
+    let y = q .more in
+    record {
+      more = omega arith;
+      marks = q .marks ∙ p .marks;
+      rest = q .rest ∙ drop-more (2 * m) (2 * l) d b (omega arith) (p .rest);
+    }
+
+module _ {N k : ℕ} {xs work out : List ℕ} (lent : Lent N k xs work out) where
+  pub lent-same : {work′ out′ : List ℕ} → length work′ ≡ length work → length out′ ≡ length out → Lent N k xs work′ out′
+  lent-same a b = record {
     within = lent .within;
     few = lent .few;
     places = omega (arith, lent .places);
@@ -40,35 +60,44 @@ module _ (N k : ℕ) (xs work out : List ℕ) (lent : Lent N k xs work out) wher
   }
 
   -- what is held fits
-  pub swept-room : (g held : ℕ) (seen : ℕ → Bool) → Swept N k xs g seen (pairsIn out held) → (held ≤ k) × (held ≤ 4096) × (2 * held ≤ length out)
-  swept-room g held seen s =
+  pub swept-room : {g : ℕ} (held : ℕ) {seen : ℕ → Bool} → Swept N k xs g seen (pairsIn out held) → (held ≤ k) × (held ≤ 4096) × (2 * held ≤ length out)
+  swept-room {g} held {seen} s =
       let a = held-few N k xs seen (pairsIn out held) (s .held) in
       let n = length-pairs out held in
       let f = lent .few in
       omega (arith, lent .room)
 
+  -- where no round follows, the full list stands in the answer slice
+  pub swept-written : {g : ℕ} → 0 < g → (held : ℕ) {seen : ℕ → Bool} → Swept N k xs g seen (pairsIn out held) → goesOn k g (pairsIn out held) ≡ false
+      → (old : List ℕ) → drop (2 * held) out ≡ drop (2 * held) old → (held ≡ length (fullList N k xs)) × (out ≡ overwrite (flat (fullList N k xs)) old)
+  swept-written pos held s e old rest =
+      let full = swept-stop pos e s in (
+        sym (length-pairs out held) ∙ ap length full,
+        overwrite-pairs out old held (swept-room held s .2) rest ∙ ap (λ (ps : List Pair). overwrite (flat ps) old) full,
+      )
+
   -- ---- one probe, at rank r, where document d stands
 
-  module _ (r : ℕ) (l : r < length xs) (d : ℕ) (is : d ≡ quantile r xs) where
+  module _ (r : ℕ) (l : r < length xs) {d : ℕ} (is : d ≡ quantile r xs) where
     pub rank-within : d < N
     rank-within = rw is (quantile-within N xs (lent .within) r l)
 
-    module _ (g : ℕ) (pos : 0 < g) (held : ℕ) (i : Sweeping N k xs g r (marked N work) (pairsIn out held)) where
+    module _ {g : ℕ} (pos : 0 < g) (held : ℕ) (i : Sweeping N k xs g r (marked N work) (pairsIn out held)) where
       pub step-again : getD work d 0 ≡ 1 → Sweeping N k xs g (r + 2 * g) (marked N work) (pairsIn out held)
       step-again e =
-          sweeping-again N k xs g pos (marked N work) (pairsIn out held) r
+          sweeping-again pos r
           (ap (marked N work) (sym is) ∙ marked-at N work d rank-within ∙ eq-eqb (getD work d 0) 1 e) i
 
       module _ (new : getD work d 0 ≡ 1 → ⊥) where
         after : Sweeping N k xs g (r + 2 * g) (mark d (marked N work)) (enter k (pairOf xs d) (pairsIn out held))
         after =
             rw is
-            (sweeping-new N k xs g pos (marked N work) (pairsIn out held) (lent .within) r l
+            (sweeping-new pos (lent .within) r l
             (ap (marked N work) (sym is) ∙ marked-at N work d rank-within ∙ ne-eqb (getD work d 0) 1 new) i)
 
         pub step-room : Room k held out
         step-room =
-            let a = swept-room (2 * g) held (marked N work) (i .before) in
+            let a = swept-room held (i .before) in
             let b = held-few N k xs (mark d (marked N work)) (enter k (pairOf xs d) (pairsIn out held)) (after .before .held) .1 in
             let c = length-take k (insertPair (pairOf xs d) (pairsIn out held)) in
             let e = length-insert (pairOf xs d) (pairsIn out held) in
@@ -82,11 +111,19 @@ module _ (N k : ℕ) (xs work out : List ℕ) (lent : Lent N k xs work out) wher
               order = held-sorted N k xs (marked N work) (pairsIn out held) (i .before .held);
             }
 
-        pub step-new : (out′ : List ℕ) (more : ℕ) → Entered k (pair d (occurrences d xs)) held out out′ more
-            → Sweeping N k xs g (r + 2 * g) (marked N (set work d 1)) (pairsIn out′ more)
-        step-new out′ more e = rw (e .pairs, marked-set N work d rank-within (omega (arith, rank-within, lent .places))) after
+        -- once it is marked and entered with its count
+        module _ {c : ℕ} (count : c ≡ occurrences d xs) {out′ : List ℕ} {more : ℕ} (e : Entered k (pair d c) held out out′ more) where
+          pub step-new : Sweeping N k xs g (r + 2 * g) (marked N (set work d 1)) (pairsIn out′ more)
+          step-new =
+              rw (e .pairs, marked-set N work d rank-within (omega (arith, rank-within, lent .places)), count) after
+
+          pub step-kept : Kept N held more work out (set work d 1) out′
+          step-kept = record { more = e .more; marks = drop-set-lt N work d 1 rank-within; rest = e .rest }
 
 -- ---- whether another round is to come
+
+pub goes-on-more : (k g : ℕ) (candidates : List Pair) → goesOn k g candidates ≡ true → 1 < g
+goes-on-more k g candidates e = ltb-true 1 g (and-both (ltb 1 g) (not (settled k g candidates)) e .0)
 
 module _ (out : List ℕ) (held k g : ℕ) where
   pub goes-on-last : g ≡ 1 → false ≡ goesOn k g (pairsIn out held)

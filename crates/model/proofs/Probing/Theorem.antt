@@ -45,26 +45,26 @@ module _ (N k : ℕ) (xs : List ℕ) (within : Within N xs) where
     probe-at r s l i = go (look (s .seen (quantile r xs)))
       where
         go : (s .seen (quantile r xs) ≡ true) ⊎ (s .seen (quantile r xs) ≡ false) → At (r + 2 * g) (probe k xs r s)
-        go (inl e) = rw e (sweeping-again N k xs g pos (s .seen) (s .candidates) r e i)
-        go (inr e) = rw e (sweeping-new N k xs g pos (s .seen) (s .candidates) within r l e i)
+        go (inl e) = rw e (sweeping-again pos r e i)
+        go (inr e) = rw e (sweeping-new pos within r l e i)
 
     sweep-swept : (n r : ℕ) (s : State) → length xs ≤ r + n → At r s → After g (sweep k xs g n r s)
-    sweep-swept zero r s l i = sweeping-end N k xs g pos (s .seen) (s .candidates) r (omega arith) i
+    sweep-swept zero r s l i = sweeping-end pos r (omega arith) i
     sweep-swept (suc n) r s l i = go (look (ltb r (length xs))) (sweep-swept n (r + 2 * g) (probe k xs r s) (omega arith))
       where
         go : (ltb r (length xs) ≡ true) ⊎ (ltb r (length xs) ≡ false)
             → (At (r + 2 * g) (probe k xs r s) → After g (sweep k xs g n (r + 2 * g) (probe k xs r s)))
             → After g (cond (ltb r (length xs)) (sweep k xs g n (r + 2 * g) (probe k xs r s)) s)
         go (inl e) h = rw e (h (probe-at r s (ltb-true r (length xs) e) i))
-        go (inr e) h = rw e (sweeping-end N k xs g pos (s .seen) (s .candidates) r (ltb-false r (length xs) e) i)
+        go (inr e) h = rw e (sweeping-end pos r (ltb-false r (length xs) e) i)
 
     round-swept : (s : State) → After (2 * g) s → After g (round k xs g s)
-    round-swept s o = sweep-swept (length xs) (g - 1) s (omega arith) (sweeping-start N k xs g pos (s .seen) (s .candidates) o)
+    round-swept s o = sweep-swept (length xs) (g - 1) s (omega arith) (sweeping-start pos o)
 
   -- ---- all rounds
 
   rounds-full : (e : ℕ) (s : State) → Swept N k xs (2 ^ suc e) (s .seen) (s .candidates) → rounds k xs e s ≡ fullList N k xs
-  rounds-full zero s o = let t = round k xs 1 s in swept-last N k xs 1 (omega arith) (t .seen) (t .candidates) refl (round-swept 1 (omega arith) s o)
+  rounds-full zero s o = let t = round k xs 1 s in swept-last (omega arith) refl (round-swept 1 (omega arith) s o)
   rounds-full (suc e) s o = go (look (settled k g (t .candidates))) (rounds-full e t w)
     where
       g : ℕ
@@ -81,7 +81,7 @@ module _ (N k : ℕ) (xs : List ℕ) (within : Within N xs) where
 
       go : (settled k g (t .candidates) ≡ true) ⊎ (settled k g (t .candidates) ≡ false) → rounds k xs e t ≡ fullList N k xs
           → cond (settled k g (t .candidates)) (t .candidates) (rounds k xs e t) ≡ fullList N k xs
-      go (inl y) h = rw y (swept-settled N k xs g (pow-pos (suc e)) (t .seen) (t .candidates) y w)
+      go (inl y) h = rw y (swept-settled (pow-pos (suc e)) y w)
       go (inr n) h = rw n h
 
   -- for every range of documents below N
@@ -89,4 +89,4 @@ module _ (N k : ℕ) (xs : List ℕ) (within : Within N xs) where
   probing-full =
       let m = length xs in
       let e = exponentTo m m in
-      rounds-full e (record { seen = unseen; candidates = [] }) (swept-start N k xs (2 ^ suc e) (exponent-high m m (lt-power m)))
+      rounds-full e (record { seen = unseen; candidates = [] }) (swept-start (exponent-high m m (lt-power m)))
