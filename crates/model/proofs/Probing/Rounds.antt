@@ -40,37 +40,36 @@ swept-start {N} {k} {xs} {g} l = record { held = held-start N k xs; probed = λ 
 probed-mark : (xs : List ℕ) (g r : ℕ) (seen : ℕ → Bool) (d : ℕ) → Probed xs g r seen → Probed xs g r (mark d seen)
 probed-mark xs g r seen d h c l m = or-right (eqb d (quantile (c * g + g - 1) xs)) (seen (quantile (c * g + g - 1) xs)) (h c l m)
 
+-- at a rank of a document that is seen
+pub sweeping-again : {N k : ℕ} {xs : List ℕ} {g : ℕ} → 0 < g → {seen : ℕ → Bool} {candidates : List Pair} (r : ℕ) → seen (quantile r xs) ≡ true
+    → Sweeping N k xs g r seen candidates → Sweeping N k xs g (r + 2 * g) seen candidates
+sweeping-again {N} {k} {xs} {g} pos {seen} r e i = record {
+  before = i .before;
+  turn = suc (i .turn);
+  rank = omega (arith, i .rank, suc-mul (i .turn) g);
+  probed = probed-step xs g pos seen r (i .turn) (i .rank) (i .before .probed) (i .probed) e;
+}
+
 module _ {N k : ℕ} {xs : List ℕ} {g : ℕ} (pos : 0 < g) {seen : ℕ → Bool} {candidates : List Pair} where
   -- ---- a round
 
   pub sweeping-start : Swept N k xs (2 * g) seen candidates → Sweeping N k xs g (g - 1) seen candidates
   sweeping-start s = record { before = s; turn = 0; rank = omega (arith, zero-mul g); probed = λ c a m. absurd (omega arith) }
 
-  -- at a rank of a document that is seen
-  pub sweeping-again : (r : ℕ) → seen (quantile r xs) ≡ true → Sweeping N k xs g r seen candidates → Sweeping N k xs g (r + 2 * g) seen candidates
-  sweeping-again r e i = record {
-    before = i .before;
-    turn = suc (i .turn);
-    rank = omega (arith, i .rank, suc-mul (i .turn) g);
-    probed = probed-step xs g pos seen r (i .turn) (i .rank) (i .before .probed) (i .probed) e;
-  }
-
   -- at a rank of a new one
   pub sweeping-new : Within N xs → (r : ℕ) → r < length xs → seen (quantile r xs) ≡ false → Sweeping N k xs g r seen candidates
       → Sweeping N k xs g (r + 2 * g) (mark (quantile r xs) seen) (enter k (pairOf xs (quantile r xs)) candidates)
   sweeping-new w r l e i =
       let d = quantile r xs in
-      let wide = probed-mark xs (2 * g) (length xs) seen d (i .before .probed) in
-      record {
+      sweeping-again pos r (or-left (eqb d d) (seen d) (eq-eqb d d refl)) (record {
         before = record {
           held = held-new N xs d (quantile-within N xs w r l) (quantile-occurs xs r l) seen e k candidates (i .before .held);
-          probed = wide;
+          probed = probed-mark xs (2 * g) (length xs) seen d (i .before .probed);
         };
-        turn = suc (i .turn);
-        rank = omega (arith, i .rank, suc-mul (i .turn) g);
-        probed = probed-step xs g pos (mark d seen) r (i .turn) (i .rank) wide (probed-mark xs g r seen d (i .probed))
-            (or-left (eqb d d) (seen d) (eq-eqb d d refl));
-      }
+        turn = i .turn;
+        rank = i .rank;
+        probed = probed-mark xs g r seen d (i .probed);
+      })
 
   -- past the last rank
   pub sweeping-end : (r : ℕ) → length xs ≤ r → Sweeping N k xs g r seen candidates → Swept N k xs g seen candidates

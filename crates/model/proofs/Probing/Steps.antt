@@ -140,11 +140,11 @@ module _ (out : List ℕ) (held k g : ℕ) where
   pub goes-on-full : 1 < g → (j : ℕ) → k ≡ suc j → held ≡ k → ltb (getD out (2 * j + 1) 0) g ≡ goesOn k g (pairsIn out held)
   goes-on-full l j some full =
       let q : k - 1 ≡ j = omega arith in
-      rw (lt-ltb 1 g l, length-pairs out held, eq-eqb held k full, q, getD-pairs out held j (omega arith)) (go (le-or-lt g (getD out (2 * j + 1) 0)))
+      rw (lt-ltb 1 g l, length-pairs out held, eq-eqb held k full, q, getD-pairs out held j (omega arith)) (go (getD out (2 * j + 1) 0) (le-or-lt g (getD out (2 * j + 1) 0)))
     where
-      go : (g ≤ getD out (2 * j + 1) 0) ⊎ (getD out (2 * j + 1) 0 < g) → ltb (getD out (2 * j + 1) 0) g ≡ not (leb g (getD out (2 * j + 1) 0))
-      go (inl h) = rw (le-ltb (getD out (2 * j + 1) 0) g h, le-leb g (getD out (2 * j + 1) 0) h)
-      go (inr h) = rw (lt-ltb (getD out (2 * j + 1) 0) g h, lt-leb g (getD out (2 * j + 1) 0) h)
+      go : (c : ℕ) → (g ≤ c) ⊎ (c < g) → ltb c g ≡ not (leb g c)
+      go c (inl h) = rw (le-ltb c g h, le-leb g c h)
+      go c (inr h) = rw (lt-ltb c g h, lt-leb g c h)
 
 -- ---- steps
 
