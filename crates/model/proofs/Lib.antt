@@ -7,3 +7,4 @@ pub mod Sorting
 pub mod Priority
 pub mod Ranking
 pub mod Greedy
+pub mod Probing

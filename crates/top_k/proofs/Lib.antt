@@ -1,0 +1,1 @@
+-- The proofs of top_k. Its laws are model's.
