@@ -36,7 +36,7 @@ module _ (bytes : List ℕ) (l : Layout) (o : Opened bytes l) where
     shape = o .shape;
   }
 
-  pub opened-length : length bytes ≡ l .levels .rows + l .levels .height * rowBytes (l .levels .entries)
+  opened-length : length bytes ≡ l .levels .rows + l .levels .height * rowBytes (l .levels .entries)
   opened-length = facts .size ∙ ap archiveLength sizes ∙ sym (ap (λ (x : Layout). x .levels .rows + x .levels .height * rowBytes (x .levels .entries)) (o .shape))
 
   pub opened-readable : Readable bytes (l .levels)

@@ -47,6 +47,7 @@ fn read_row(archive: &[u8], t: Levels, j: usize, keys: &mut [u32])
     deepen(&archive[at..], &mut next, keys);
 }
 
+// Sets all keys to 0, that of the root.
 fn clear(keys: &mut [u32])
     ensures { λ r. ⌜ Zeros (now (keys .exit)) ⌝ }
 {
