@@ -5,3 +5,10 @@ pub mod Acceptance
 pub mod TermTable
 pub mod Opened
 pub mod Demand2
+pub mod Assembly
+pub mod Counters
+pub mod Filling
+pub mod Leveling
+pub mod Numbers
+pub mod Overwrite
+pub mod Refusals

@@ -1,3 +1,5 @@
 -- What the contracts of archive cite, beside the definitions of model.
 pub mod Layout
 pub mod Opening
+pub mod Keys
+pub mod Writing

@@ -2,13 +2,17 @@
 use wavelet::Levels;
 
 mod check;
+mod keys;
 mod offsets;
+mod put;
 mod terms;
+mod writer;
 
 pub use check::open;
 pub use offsets::archive_length;
 pub use offsets::layout_of;
 pub use terms::term_start;
+pub use writer::write;
 
 // The layout of an opened archive: N, W, and where its levels lie, n and h with them.
 pub struct Layout {
@@ -20,5 +24,11 @@ pub struct Layout {
 // What the check on opening answers: the layout of an accepted archive, n, N and W in it, or the number of a refusal.
 pub enum Opening {
     Accepted(Layout),
+    Refused(u32),
+}
+
+// The writer's answer: the archive's length in bytes, or the number of a refusal.
+pub enum Written {
+    Length(usize),
     Refused(u32),
 }

@@ -4,18 +4,17 @@ use mathlib.Core.Logic.{_≢_, _⊎_, inl, inr}
 use mathlib.Core.Bool.{Bool, true, false}
 use mathlib.Core.List.{List, _++_, append-assoc}
 use Prim.Native.Nat.{ℕ, zero, suc, _+_, _-_, _*_, _/_, _%_, _^_, _≤_, _<_}
-use native.Mathlib.Nat.{add-zero, pow-suc, div-div-eq-div-mul, add-div-right, add-mul-div-right, div-lt-iff-lt-mul, zero-div}
+use native.Mathlib.Nat.{add-zero, zero-mul, one-mul, pow-suc, div-div-eq-div-mul, add-div-right, add-mul-div-right, div-lt-iff-lt-mul, zero-div}
 use native.Mathlib.Decide.{ℕ-discrete}
 use native.Mathlib.Numerals.{one-add, add-one, add-two, add-three}
 use native.Mathlib.Omega.{arith}
 use lib.Dec.{eqb}
 use lib.ListN.{length, getD, set, take, drop, length-set, length-append, length-drop, List·getD-append}
 use lib.Pow.{pow-pos, pow-add, shr-shr, shr-lt}
-use lib.Seq.{sets-eq, length-take-le, getD-append-add, getD-take, getD-drop, getD-set-same, getD-set-other, ext-getD}
+use lib.Seq.{sets-eq, length-take-le, getD-append-add, getD-take, getD-drop, getD-set-same, getD-set-other}
 use borrow.Author.Tests.{eqb-true, eqb-false, eq-eqb}
-use Rattle.bit_rows.specs.Bits.{bitAt, bitsOf, rowBytes, littleEndian, numberAt, unusedClear}
+use Rattle.bit_rows.specs.Bits.{bitAt, rowBytes, littleEndian, numberAt, unusedClear}
 use Rattle.bit_rows.specs.Rows.{withBit, withNumber}
-use Rattle.bit_rows.proofs.Bits.{length-bitsOf, getD-bitsOf}
 use Rattle.bit_rows.proofs.Tests.{le-or-lt}
 use Rattle.bit_rows.proofs.Tally.{all-upFrom, all-upFrom-at}
 
@@ -96,7 +95,7 @@ module _ (bytes : List ℕ) (k x : ℕ) (fits : k + 4 ≤ length bytes) where
 
 module _ (b r : ℕ) (clear : b / 2 ^ r % 2 ≡ 0) where
   -- a byte with a bit more is a byte
-  pub byte-fits : b < 256 → r < 8 → b + 2 ^ r < 256
+  byte-fits : b < 256 → r < 8 → b + 2 ^ r < 256
   byte-fits h l =
       let s : 8 - r + r ≡ 8 = omega arith in
       let t : suc (7 - r) ≡ 8 - r = omega arith in
@@ -127,35 +126,38 @@ module _ (b r : ℕ) (clear : b / 2 ^ r % 2 ≡ 0) where
       go (inl h) = byte-lower j (r - j - 1) (omega arith)
       go (inr h) = byte-higher j (j - r - 1) (omega arith)
 
-module _ (row : List ℕ) (i : ℕ) (within : i < 8 * length row) (clear : bitAt row i ≡ 0) where
-  pub bitAt-withBit : bitAt (withBit row i) i ≡ 1
-  bitAt-withBit =
-      rw (getD-set-same row (i / 8) (getD row (i / 8) 0 + 2 ^ (i % 8)) 0 (omega arith)) (byte-same (getD row (i / 8) 0) (i % 8) clear)
+-- a byte with bit r stored where a 0 stands
+stored-same : (b r c : ℕ) → b / 2 ^ r % 2 ≡ 0 → c < 2 → (b + c * 2 ^ r) / 2 ^ r % 2 ≡ c
+stored-same b r zero clear l = rw (zero-mul (2 ^ r), add-zero b) clear
+stored-same b r (suc zero) clear l = rw (one-mul (2 ^ r)) (byte-same b r clear)
+stored-same b r (suc (suc c)) clear l = absurd (omega arith)
 
-  pub bitAt-withBit-other : (k : ℕ) → k ≢ i → bitAt (withBit row i) k ≡ bitAt row k
+stored-other : (b r c : ℕ) → b / 2 ^ r % 2 ≡ 0 → c < 2 → (j : ℕ) → j ≢ r → (b + c * 2 ^ r) / 2 ^ j % 2 ≡ b / 2 ^ j % 2
+stored-other b r zero clear l j ne = rw (zero-mul (2 ^ r), add-zero b)
+stored-other b r (suc zero) clear l j ne = rw (one-mul (2 ^ r)) (byte-other b r clear j ne)
+stored-other b r (suc (suc c)) clear l j ne = absurd (omega arith)
+
+pub stored-fits : (b r c : ℕ) → b / 2 ^ r % 2 ≡ 0 → c < 2 → b < 256 → r < 8 → b + c * 2 ^ r < 256
+stored-fits b r zero clear l h m = rw (zero-mul (2 ^ r), add-zero b) h
+stored-fits b r (suc zero) clear l h m = rw (one-mul (2 ^ r)) (byte-fits b r clear h m)
+stored-fits b r (suc (suc c)) clear l h m = absurd (omega arith)
+
+module _ (row : List ℕ) (i b : ℕ) (within : i < 8 * length row) (clear : bitAt row i ≡ 0) (bit : b < 2) where
+  pub bitAt-withBit : bitAt (withBit row i b) i ≡ b
+  bitAt-withBit =
+      rw (getD-set-same row (i / 8) (getD row (i / 8) 0 + b * 2 ^ (i % 8)) 0 (omega arith)) (stored-same (getD row (i / 8) 0) (i % 8) b clear bit)
+
+  pub bitAt-withBit-other : (k : ℕ) → k ≢ i → bitAt (withBit row i b) k ≡ bitAt row k
   bitAt-withBit-other k ne = go (ℕ-discrete (k / 8) (i / 8))
     where
-      go : Dec (k / 8 ≡ i / 8) → bitAt (withBit row i) k ≡ bitAt row k
+      go : Dec (k / 8 ≡ i / 8) → bitAt (withBit row i b) k ≡ bitAt row k
       go (yes e) =
           let d : k % 8 ≢ i % 8 = omega arith in
-          rw (e, getD-set-same row (i / 8) (getD row (i / 8) 0 + 2 ^ (i % 8)) 0 (omega arith)) (byte-other (getD row (i / 8) 0) (i % 8) clear (k % 8) d)
-      go (no d) = rw (getD-set-other row (i / 8) (k / 8) (getD row (i / 8) 0 + 2 ^ (i % 8)) 0 d)
+          rw (e, getD-set-same row (i / 8) (getD row (i / 8) 0 + b * 2 ^ (i % 8)) 0 (omega arith)) (stored-other (getD row (i / 8) 0) (i % 8) b clear bit (k % 8) d)
+      go (no d) = rw (getD-set-other row (i / 8) (k / 8) (getD row (i / 8) 0 + b * 2 ^ (i % 8)) 0 d)
 
-  pub bitsOf-withBit : (n : ℕ) → bitsOf n (withBit row i) ≡ set (bitsOf n row) i 1
-  bitsOf-withBit n =
-      ext-getD 0 (bitsOf n (withBit row i)) (set (bitsOf n row) i 1)
-      (length-bitsOf n (withBit row i) ∙ sym (length-set (bitsOf n row) i 1 ∙ length-bitsOf n row))
-      (λ k h. at-place k (rw (length-bitsOf n (withBit row i)) at h) (ℕ-discrete k i))
-    where
-      at-place : (k : ℕ) → k < n → Dec (k ≡ i) → getD (bitsOf n (withBit row i)) k 0 ≡ getD (set (bitsOf n row) i 1) k 0
-      at-place k h (yes e) =
-          let l : i < length (bitsOf n row) = rw (length-bitsOf n row, ← e) h in
-          getD-bitsOf n (withBit row i) k h ∙ rw e (bitAt-withBit ∙ sym (getD-set-same (bitsOf n row) i 1 0 l))
-      at-place k h (no d) =
-          getD-bitsOf n (withBit row i) k h ∙ bitAt-withBit-other k d ∙ sym (getD-set-other (bitsOf n row) i k 1 0 d ∙ getD-bitsOf n row k h)
-
-pub length-withBit : (row : List ℕ) (i : ℕ) → length (withBit row i) ≡ length row
-length-withBit row i = length-set row (i / 8) (getD row (i / 8) 0 + 2 ^ (i % 8))
+pub length-withBit : (row : List ℕ) (i b : ℕ) → length (withBit row i b) ≡ length row
+length-withBit row i b = length-set row (i / 8) (getD row (i / 8) 0 + b * 2 ^ (i % 8))
 
 -- ---- unused bits
 

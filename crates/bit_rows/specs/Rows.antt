@@ -47,9 +47,9 @@ pub record Reached (n v : ℕ) (row : List ℕ) (j byte before : ℕ) : Type 0 w
 abbrev pub foundAt : ℕ → ℕ → Found
 foundAt n p = cond (ltb p n) (At p) Nothing
 
--- a row whose bit i was 0, with the bit set
-abbrev pub withBit : List ℕ → ℕ → List ℕ
-withBit row i = set row (i / 8) (getD row (i / 8) 0 + 2 ^ (i % 8))
+-- a row whose bit i was 0, with bit b stored there
+abbrev pub withBit : List ℕ → ℕ → ℕ → List ℕ
+withBit row i b = set row (i / 8) (getD row (i / 8) 0 + b * 2 ^ (i % 8))
 
 -- bytes with a number of 32 bits stored at an offset
 abbrev pub withNumber : List ℕ → ℕ → ℕ → List ℕ

@@ -18,7 +18,7 @@ pub use rank::rank1;
 pub use select::select0;
 pub use select::select1;
 pub use write::fill_samples;
-pub use write::set_bit;
+pub use write::put_bit;
 
 // What a search for a bit answers: its place, or nothing.
 pub enum Found {

@@ -8,14 +8,14 @@ ghost use lib.ListN.{length, drop};
 ghost use Rattle.bit_rows.specs.Bits.{bitAt, bitsOf, sampleCount, samplesOf};
 ghost use Rattle.bit_rows.specs.Rows.{withBit, Sized};
 
-// Sets bit i, which is 0; all other bits stay.
-pub fn set_bit(row: &mut [u8], i: usize)
-    requires { ⌜ (i < 8 * length (now row)) × (bitAt (now row) i ≡ 0) ⌝ }
-    ensures { λ r. ⌜ now (row .exit) ≡ withBit (now (row .entry)) i ⌝ }
+// Stores bit b at place i, where a 0 stands; all other bits stay.
+pub fn put_bit(row: &mut [u8], i: usize, b: u8)
+    requires { ⌜ (i < 8 * length (now row)) × (bitAt (now row) i ≡ 0) × (b < 2) ⌝ }
+    ensures { λ r. ⌜ now (row .exit) ≡ withBit (now (row .entry)) i b ⌝ }
 {
     let k = i / 8;
-    let b = row[k];
-    row[k] = b + (1 << (i % 8));
+    let old = row[k];
+    row[k] = old + (b << (i % 8));
 }
 
 // Writes the samples of the row; what lies behind them stays.

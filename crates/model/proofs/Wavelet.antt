@@ -18,3 +18,4 @@ pub mod Quantile
 pub mod Place
 pub mod Select
 pub mod Next
+pub mod Placing

@@ -76,7 +76,7 @@ module _ (lib : Library) (v : Valid lib) where
   pub row-size : (j : ℕ) → j < h → length (row h j (lib .entries)) ≡ length (lib .entries)
   row-size j l = row-length h j (lib .entries) (le-of-lt l) entries-within
 
-  length-numbers-part : length (concat (map littleEndian numbers)) ≡ samplesOffset s
+  pub length-numbers-part : length (concat (map littleEndian numbers)) ≡ samplesOffset s
   length-numbers-part =
       length-numbers numbers ∙ omega (arith, length-append (header s) (tableFrom 0 (lib .lengths)), length-table 0 (lib .lengths))
 

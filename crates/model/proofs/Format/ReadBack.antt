@@ -25,7 +25,7 @@ use Rattle.model.proofs.Wavelet.Decode.{decode-of}
 use Rattle.model.proofs.Format.Valid.{Valid, of-limits, any-within}
 use Rattle.model.proofs.Format.Layout.{table-start, table-length, entries-within, row-size, length-encode, samples-at, row-at, number-at}
 
-sum-take-suc : (ls : List ℕ) (t : ℕ) → t < length ls → sum (take (suc t) ls) ≡ sum (take t ls) + getD ls t 0
+pub sum-take-suc : (ls : List ℕ) (t : ℕ) → t < length ls → sum (take (suc t) ls) ≡ sum (take t ls) + getD ls t 0
 sum-take-suc [] t l = absurd (omega arith)
 sum-take-suc (x ∷ ls) zero l = omega arith
 sum-take-suc (x ∷ ls) (suc t) l = omega (arith, sum-take-suc ls t (omega arith))

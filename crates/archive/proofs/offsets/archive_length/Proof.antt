@@ -1,8 +1,5 @@
-use mathlib.Core.Path.{ap}
 use native.Mathlib.Omega.{arith}
 use borrow.Author.Needs.{needs}
-use Rattle.model.specs.Format.{archiveLength}
-use Rattle.archive.specs.Layout.{sizesIn}
 use Rattle.archive.proofs.Bounds.{bounded}
 use Rattle.archive.proofs.offsets.archive_length.Statement.{statement}
 use Rattle.archive.proofs.offsets.archive_length.Tie as tie

@@ -1,14 +1,8 @@
-use Rattle.archive.proofs.Bounds.{samples-bound}
-use Prim.Native.Nat.{ℕ, _+_, _-_, _*_, _/_, _^_, _≤_, _<_}
-use mathlib.Core.Path.{_≡_, refl, sym, ap, _∙_}
-use lib.ListN.{length, getD, take, drop, set, length-set}
 use native.Mathlib.Omega.{arith}
 use borrow.Author.Needs.{needs}
+use Rattle.archive.proofs.Bounds.{samples-bound}
 use Rattle.archive.proofs.offsets.layout_of.Statement.{statement}
 use Rattle.archive.proofs.offsets.layout_of.Tie as tie
-use Rattle.archive.proofs.offsets.layout_of.Reads as reads
-use Rattle.archive.proofs.offsets.layout_of.Lts as lts
-use Rattle.archive.proofs.offsets.height_of.Reads as height-of-reads
 
 height-of-requires : tie.Need-height-of-requires
 height-of-requires c κs = search needs

@@ -1,9 +1,6 @@
 use borrow.Author.Tests.{le-leb, lt-leb}
-use borrow.Author.Needs.{needs}
 use Rattle.archive.proofs.offsets.within_limits.Statement.{statement}
 use Rattle.archive.proofs.offsets.within_limits.Tie as tie
-use Rattle.archive.proofs.offsets.within_limits.Reads as reads
-use Rattle.archive.proofs.offsets.within_limits.Lts as lts
 
 returns : tie.Need-returns
 returns c = rw (lt-leb (c .before .args .n) 65535 (c .if1 .taken))
