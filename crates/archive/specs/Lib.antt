@@ -3,3 +3,4 @@ pub mod Layout
 pub mod Opening
 pub mod Keys
 pub mod Writing
+pub mod Reading
