@@ -1,0 +1,3 @@
+-- What the contracts of top_k cite.
+pub mod Records
+pub mod Moves
