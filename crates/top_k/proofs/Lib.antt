@@ -5,3 +5,7 @@ pub mod Kept
 pub mod Halves
 pub mod Made
 pub mod Opens
+pub mod Listed
+pub mod Advances
+pub mod Course
+pub mod Searching

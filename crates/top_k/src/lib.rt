@@ -1,4 +1,6 @@
 // Top-k search of a range of entries: the greedy search, move by move.
+mod clear;
+pub mod greedy;
 mod node;
 pub mod step;
 
