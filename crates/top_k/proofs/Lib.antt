@@ -1,1 +1,2 @@
--- The proofs of top_k. Its laws are model's.
+-- Laws of top_k; those of probing itself are model's.
+pub mod Ranges

@@ -1,0 +1,3 @@
+-- What the contracts of top_k cite.
+pub mod Searchable
+pub mod Full
