@@ -1,4 +1,5 @@
--- Laws of the waiting nodes in the work slice, and of the search that moves on them.
+-- Laws of the waiting nodes in the work slice, and of the search that moves on them; those of probing itself are model's.
+pub mod Ranges
 pub mod Tree
 pub mod Records
 pub mod Kept

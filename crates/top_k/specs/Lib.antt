@@ -1,4 +1,6 @@
 -- What the contracts of top_k cite.
+pub mod Searchable
+pub mod Full
 pub mod Records
 pub mod Moves
 pub mod Results

@@ -1,13 +1,12 @@
 -- The waiting nodes in the lent work slice, and what a move makes of them. Document 01, "The questions", the shortlist.
-use Prim.Native.Nat.{ℕ, _+_, _*_, _/_, _^_, _≤_, _<_}
+use Prim.Native.Nat.{ℕ, _*_, _/_, _^_, _≤_}
 use mathlib.Core.Path.{_≡_}
 use mathlib.Core.List.{List, [], _∷_, map, tail}
 use mathlib.Core.Bool.{Bool}
 use lib.ListN.{length, drop}
 use Rattle.frontier.specs.declared.Record.{Record}
 use Rattle.frontier.specs.Heap.{queue, Heap}
-use Rattle.wavelet.specs.Levels.{Stored, entriesIn}
-use Rattle.model.specs.Lists.{part, Within}
+use Rattle.wavelet.specs.Levels.{entriesIn}
 use Rattle.model.specs.Rows.{height}
 use Rattle.model.specs.TopK.{Node, node, countIn}
 use Rattle.model.specs.Search as model
@@ -18,20 +17,7 @@ use Rattle.top_k.specs.declared.Move.{Move}
 use Rattle.top_k.specs.declared.Move.the-variants.{Names, Opens, Spent}
 use Rattle.top_k.specs.declared.Moved.{Moved}
 use Rattle.top_k.specs.Records.{recordOf, waitingIn}
-
--- what a search asks: an archive's levels, whose entries are documents, and a range of them
-pub record Searchable (bytes : List ℕ) (s : Search) : Type 0 where
-  pub stored : Stored bytes (s .levels)
-  pub high : s .levels .height ≡ height (s .documents)
-  pub some : 1 ≤ s .documents
-  pub few : s .documents ≤ 4096
-  pub within : Within (s .documents) (entriesIn bytes (s .levels))
-  pub ordered : s .a ≤ s .b
-  pub inside : s .b ≤ s .levels .entries
-
--- the entries of the range
-abbrev pub rangeOf : List ℕ → Search → List ℕ
-rangeOf bytes s = part (s .a) (s .b) (entriesIn bytes (s .levels))
+pub use Rattle.top_k.specs.Searchable.{Searchable, rangeOf}
 
 -- a node's count in the range; a node with none never waits; and its record
 abbrev pub countOf : List ℕ → Search → Node → ℕ

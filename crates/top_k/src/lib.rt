@@ -3,6 +3,7 @@ mod candidates;
 mod clear;
 pub mod greedy;
 mod node;
+pub mod probing;
 mod rounds;
 pub mod step;
 

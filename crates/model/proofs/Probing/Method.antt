@@ -3,7 +3,7 @@
 use Prim.Native.Nat.{ℕ, zero, suc, _+_, _-_, _*_, _^_}
 use mathlib.Core.Path.{_≡_, refl}
 use mathlib.Core.List.{List, [], _∷_}
-use mathlib.Core.Bool.{Bool, false, cond, _&&_, _||_}
+use mathlib.Core.Bool.{Bool, true, false, cond, _&&_, _||_}
 use lib.ListN.{length, getD, take}
 use lib.Dec.{leb, ltb, eqb}
 use Rattle.model.specs.Queries.{quantile, Pair, pairOf}
@@ -35,6 +35,14 @@ abbrev pub probe : ℕ → List ℕ → ℕ → State → State
 probe k xs r s =
     let d = quantile r xs in
     cond (s .seen d) s (record { seen = mark d (s .seen); candidates = enter k (pairOf xs d) (s .candidates) })
+
+module _ (k : ℕ) (xs : List ℕ) (r : ℕ) (s : State) where
+  pub probe-again : s .seen (quantile r xs) ≡ true → probe k xs r s ≡ s
+  probe-again e = rw e
+
+  pub probe-new : s .seen (quantile r xs) ≡ false
+      → probe k xs r s ≡ record { seen = mark (quantile r xs) (s .seen); candidates = enter k (pairOf xs (quantile r xs)) (s .candidates) }
+  probe-new e = rw e
 
 -- ---- one round
 

@@ -9,11 +9,11 @@ use mathlib.Core.Bool.{Bool, true, false, not, _&&_}
 use lib.ListN.{length, getD}
 use lib.Dec.{leb, ltb, eqb}
 use borrow.Author.Tests.{ltb-false, leb-true, eqb-true, eq-eqb, not-false}
-use Rattle.bit_rows.proofs.Tests.{or-left, or-right, and-both, and-cases}
+use Rattle.bit_rows.proofs.Tests.{look, or-left, or-right, and-both, and-cases}
 use Rattle.model.specs.Lists.{Within}
 use Rattle.model.specs.Queries.{quantile, Pair, pairOf}
 use Rattle.model.specs.TopK.{fullList}
-use Rattle.model.proofs.Probing.Method.{enter, unseen, mark, nobody, settled}
+use Rattle.model.proofs.Probing.Method.{enter, unseen, mark, State, probe, nobody, settled}
 use Rattle.model.proofs.Probing.Held.{Held, held-start, held-new, held-all, held-stop}
 use Rattle.model.proofs.Probing.Probed.{quantile-occurs, quantile-within, Probed, probed-count, probed-step}
 
@@ -41,7 +41,7 @@ probed-mark : (xs : List ℕ) (g r : ℕ) (seen : ℕ → Bool) (d : ℕ) → Pr
 probed-mark xs g r seen d h c l m = or-right (eqb d (quantile (c * g + g - 1) xs)) (seen (quantile (c * g + g - 1) xs)) (h c l m)
 
 -- at a rank of a document that is seen
-pub sweeping-again : {N k : ℕ} {xs : List ℕ} {g : ℕ} → 0 < g → {seen : ℕ → Bool} {candidates : List Pair} (r : ℕ) → seen (quantile r xs) ≡ true
+sweeping-again : {N k : ℕ} {xs : List ℕ} {g : ℕ} → 0 < g → {seen : ℕ → Bool} {candidates : List Pair} (r : ℕ) → seen (quantile r xs) ≡ true
     → Sweeping N k xs g r seen candidates → Sweeping N k xs g (r + 2 * g) seen candidates
 sweeping-again {N} {k} {xs} {g} pos {seen} r e i = record {
   before = i .before;
@@ -57,7 +57,7 @@ module _ {N k : ℕ} {xs : List ℕ} {g : ℕ} (pos : 0 < g) {seen : ℕ → Boo
   sweeping-start s = record { before = s; turn = 0; rank = omega (arith, zero-mul g); probed = λ c a m. absurd (omega arith) }
 
   -- at a rank of a new one
-  pub sweeping-new : Within N xs → (r : ℕ) → r < length xs → seen (quantile r xs) ≡ false → Sweeping N k xs g r seen candidates
+  sweeping-new : Within N xs → (r : ℕ) → r < length xs → seen (quantile r xs) ≡ false → Sweeping N k xs g r seen candidates
       → Sweeping N k xs g (r + 2 * g) (mark (quantile r xs) seen) (enter k (pairOf xs (quantile r xs)) candidates)
   sweeping-new w r l e i =
       let d = quantile r xs in
@@ -97,3 +97,13 @@ module _ {N k : ℕ} {xs : List ℕ} {g : ℕ} (pos : 0 < g) {seen : ℕ → Boo
       go : (ltb 1 g ≡ false) ⊎ (not (settled k g candidates) ≡ false) → candidates ≡ fullList N k xs
       go (inl a) = swept-last (omega (arith, ltb-false 1 g a)) s
       go (inr b) = swept-settled (not-false (settled k g candidates) b) s
+
+-- a probe
+pub sweeping-probe : {N k : ℕ} {xs : List ℕ} {g : ℕ} → 0 < g → Within N xs → (r : ℕ) → r < length xs → (s : State)
+    → Sweeping N k xs g r (s .seen) (s .candidates) → Sweeping N k xs g (r + 2 * g) (probe k xs r s .seen) (probe k xs r s .candidates)
+sweeping-probe {N} {k} {xs} {g} pos within r l s i = go (look (s .seen (quantile r xs)))
+  where
+    go : (s .seen (quantile r xs) ≡ true) ⊎ (s .seen (quantile r xs) ≡ false)
+        → Sweeping N k xs g (r + 2 * g) (probe k xs r s .seen) (probe k xs r s .candidates)
+    go (inl e) = rw e (sweeping-again pos r e i)
+    go (inr e) = rw e (sweeping-new pos within r l e i)

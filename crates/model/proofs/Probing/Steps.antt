@@ -16,11 +16,11 @@ use Rattle.bit_rows.proofs.Tests.{and-both, le-or-lt}
 use Rattle.model.specs.Lists.{Within, overwrite}
 use Rattle.model.specs.Queries.{quantile, Pair, flat, pairOf}
 use Rattle.model.specs.TopK.{insertPair, fullList}
-use Rattle.model.proofs.Probing.Method.{pair, enter, mark, settled}
+use Rattle.model.proofs.Probing.Method.{pair, enter, mark, State, probe, settled, probe-again, probe-new}
 use Rattle.model.proofs.Probing.Insertion.{length-insert}
-use Rattle.model.proofs.Probing.Held.{held-sorted, held-few}
-use Rattle.model.proofs.Probing.Probed.{quantile-within}
-use Rattle.model.proofs.Probing.Rounds.{Swept, Sweeping, goesOn, swept-stop, sweeping-again, sweeping-new}
+use Rattle.model.proofs.Probing.Held.{Held, held-new, held-sorted, held-few}
+use Rattle.model.proofs.Probing.Probed.{quantile-occurs, quantile-within}
+use Rattle.model.proofs.Probing.Rounds.{Swept, goesOn, swept-stop}
 use Rattle.model.proofs.Probing.Slices.{pairsIn, length-pairs, getD-pairs, overwrite-pairs, drop-more, marked, marked-at, marked-set}
 use Rattle.model.proofs.Probing.Entering.{Room, Entered}
 
@@ -30,6 +30,10 @@ pub record Lent (N k : ℕ) (xs work out : List ℕ) : Type 0 where
   pub few : N ≤ 4096
   pub places : N ≤ length work
   pub room : 2 * min k N ≤ length out
+
+-- the documents marked, and the pairs held
+abbrev pub stateIn : ℕ → List ℕ → List ℕ → ℕ → State
+stateIn N work out held = record { seen = marked N work; candidates = pairsIn out held }
 
 -- from n pairs held to m: behind the pairs and behind the marks nothing has changed
 pub record Kept (N n m : ℕ) (work out work′ out′ : List ℕ) : Type 0 where
@@ -60,9 +64,9 @@ module _ {N k : ℕ} {xs work out : List ℕ} (lent : Lent N k xs work out) wher
   }
 
   -- what is held fits
-  pub swept-room : {g : ℕ} (held : ℕ) {seen : ℕ → Bool} → Swept N k xs g seen (pairsIn out held) → (held ≤ k) × (held ≤ 4096) × (2 * held ≤ length out)
-  swept-room {g} held {seen} s =
-      let a = held-few N k xs seen (pairsIn out held) (s .held) in
+  pub held-room : (held : ℕ) (seen : ℕ → Bool) → Held N k xs seen (pairsIn out held) → (held ≤ k) × (held ≤ 4096) × (2 * held ≤ length out)
+  held-room held seen h =
+      let a = held-few N k xs seen (pairsIn out held) h in
       let n = length-pairs out held in
       let f = lent .few in
       omega (arith, lent .room)
@@ -70,10 +74,10 @@ module _ {N k : ℕ} {xs work out : List ℕ} (lent : Lent N k xs work out) wher
   -- where no round follows, the full list stands in the answer slice
   pub swept-written : {g : ℕ} → 0 < g → (held : ℕ) {seen : ℕ → Bool} → Swept N k xs g seen (pairsIn out held) → goesOn k g (pairsIn out held) ≡ false
       → (old : List ℕ) → drop (2 * held) out ≡ drop (2 * held) old → (held ≡ length (fullList N k xs)) × (out ≡ overwrite (flat (fullList N k xs)) old)
-  swept-written pos held s e old rest =
+  swept-written pos held {seen} s e old rest =
       let full = swept-stop pos e s in (
         sym (length-pairs out held) ∙ ap length full,
-        overwrite-pairs out old held (swept-room held s .2) rest ∙ ap (λ (ps : List Pair). overwrite (flat ps) old) full,
+        overwrite-pairs out old held (held-room held seen (s .held) .2) rest ∙ ap (λ (ps : List Pair). overwrite (flat ps) old) full,
       )
 
   -- ---- one probe, at rank r, where document d stands
@@ -82,43 +86,41 @@ module _ {N k : ℕ} {xs work out : List ℕ} (lent : Lent N k xs work out) wher
     pub rank-within : d < N
     rank-within = rw is (quantile-within N xs (lent .within) r l)
 
-    module _ {g : ℕ} (pos : 0 < g) (held : ℕ) (i : Sweeping N k xs g r (marked N work) (pairsIn out held)) where
-      pub step-again : getD work d 0 ≡ 1 → Sweeping N k xs g (r + 2 * g) (marked N work) (pairsIn out held)
-      step-again e =
-          sweeping-again pos r
-          (ap (marked N work) (sym is) ∙ marked-at N work d rank-within ∙ eq-eqb (getD work d 0) 1 e) i
+    pub step-again : (held : ℕ) → getD work d 0 ≡ 1 → stateIn N work out held ≡ probe k xs r (stateIn N work out held)
+    step-again held e =
+        sym (probe-again k xs r (stateIn N work out held) (ap (marked N work) (sym is) ∙ marked-at N work d rank-within ∙ eq-eqb (getD work d 0) 1 e))
 
-      module _ (new : getD work d 0 ≡ 1 → ⊥) where
-        after : Sweeping N k xs g (r + 2 * g) (mark d (marked N work)) (enter k (pairOf xs d) (pairsIn out held))
-        after =
-            rw is
-            (sweeping-new pos (lent .within) r l
-            (ap (marked N work) (sym is) ∙ marked-at N work d rank-within ∙ ne-eqb (getD work d 0) 1 new) i)
+    module _ (held : ℕ) (new : getD work d 0 ≡ 1 → ⊥) where
+      unmarked : marked N work (quantile r xs) ≡ false
+      unmarked = ap (marked N work) (sym is) ∙ marked-at N work d rank-within ∙ ne-eqb (getD work d 0) 1 new
 
-        pub step-room : Room k held out
-        step-room =
-            let a = swept-room held (i .before) in
-            let b = held-few N k xs (mark d (marked N work)) (enter k (pairOf xs d) (pairsIn out held)) (after .before .held) .1 in
-            let c = length-take k (insertPair (pairOf xs d) (pairsIn out held)) in
-            let e = length-insert (pairOf xs d) (pairsIn out held) in
-            let n = length-pairs out held in
-            let room = lent .room in
-            record {
-              few = omega arith;
-              short = omega arith;
-              inside = omega arith;
-              next = λ h. omega arith;
-              order = held-sorted N k xs (marked N work) (pairsIn out held) (i .before .held);
-            }
+      pub step-room : Held N k xs (marked N work) (pairsIn out held) → Room k held out
+      step-room h =
+          let q = quantile r xs in
+          let a = held-room held (marked N work) h in
+          let after = held-new N xs q (quantile-within N xs (lent .within) r l) (quantile-occurs xs r l) (marked N work) unmarked k (pairsIn out held) h in
+          let b = held-few N k xs (mark q (marked N work)) (enter k (pairOf xs q) (pairsIn out held)) after .1 in
+          let c = length-take k (insertPair (pairOf xs q) (pairsIn out held)) in
+          let e = length-insert (pairOf xs q) (pairsIn out held) in
+          let n = length-pairs out held in
+          let room = lent .room in
+          record {
+            few = omega arith;
+            short = omega arith;
+            inside = omega arith;
+            next = λ h. omega arith;
+            order = held-sorted N k xs (marked N work) (pairsIn out held) h;
+          }
 
-        -- once it is marked and entered with its count
-        module _ {c : ℕ} (count : c ≡ occurrences d xs) {out′ : List ℕ} {more : ℕ} (e : Entered k (pair d c) held out out′ more) where
-          pub step-new : Sweeping N k xs g (r + 2 * g) (marked N (set work d 1)) (pairsIn out′ more)
-          step-new =
-              rw (e .pairs, marked-set N work d rank-within (omega (arith, rank-within, lent .places)), count) after
+      -- once it is marked and entered with its count
+      module _ {c : ℕ} (count : c ≡ occurrences d xs) {out′ : List ℕ} {more : ℕ} (e : Entered k (pair d c) held out out′ more) where
+        pub step-new : stateIn N (set work d 1) out′ more ≡ probe k xs r (stateIn N work out held)
+        step-new =
+            rw (e .pairs, marked-set N work d rank-within (omega (arith, rank-within, lent .places)), count, is)
+            (sym (probe-new k xs r (stateIn N work out held) unmarked))
 
-          pub step-kept : Kept N held more work out (set work d 1) out′
-          step-kept = record { more = e .more; marks = drop-set-lt N work d 1 rank-within; rest = e .rest }
+        pub step-kept : Kept N held more work out (set work d 1) out′
+        step-kept = record { more = e .more; marks = drop-set-lt N work d 1 rank-within; rest = e .rest }
 
 -- ---- whether another round is to come
 

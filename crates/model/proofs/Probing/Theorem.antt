@@ -12,10 +12,9 @@ use lib.Pow.{pow-pos}
 use borrow.Author.Tests.{ltb-true, ltb-false, leb-false}
 use Rattle.bit_rows.proofs.Tests.{look}
 use Rattle.model.specs.Lists.{Within}
-use Rattle.model.specs.Queries.{quantile}
 use Rattle.model.specs.TopK.{fullList}
 use Rattle.model.proofs.Probing.Method.{State, unseen, probe, sweep, round, settled, rounds, exponentTo, probing}
-use Rattle.model.proofs.Probing.Rounds.{Swept, Sweeping, swept-start, sweeping-start, sweeping-again, sweeping-new, sweeping-end, swept-last, swept-settled}
+use Rattle.model.proofs.Probing.Rounds.{Swept, Sweeping, swept-start, sweeping-start, sweeping-end, sweeping-probe, swept-last, swept-settled}
 
 -- the first step is more than half the size
 exponent-high : (f m : ℕ) → m < 2 ^ suc f → m < 2 ^ suc (exponentTo f m)
@@ -41,13 +40,6 @@ module _ (N k : ℕ) (xs : List ℕ) (within : Within N xs) where
     abbrev After : ℕ → State → Type 0
     After step s = Swept N k xs step (s .seen) (s .candidates)
 
-    probe-at : (r : ℕ) (s : State) → r < length xs → At r s → At (r + 2 * g) (probe k xs r s)
-    probe-at r s l i = go (look (s .seen (quantile r xs)))
-      where
-        go : (s .seen (quantile r xs) ≡ true) ⊎ (s .seen (quantile r xs) ≡ false) → At (r + 2 * g) (probe k xs r s)
-        go (inl e) = rw e (sweeping-again pos r e i)
-        go (inr e) = rw e (sweeping-new pos within r l e i)
-
     sweep-swept : (n r : ℕ) (s : State) → length xs ≤ r + n → At r s → After g (sweep k xs g n r s)
     sweep-swept zero r s l i = sweeping-end pos r (omega arith) i
     sweep-swept (suc n) r s l i = go (look (ltb r (length xs))) (sweep-swept n (r + 2 * g) (probe k xs r s) (omega arith))
@@ -55,7 +47,7 @@ module _ (N k : ℕ) (xs : List ℕ) (within : Within N xs) where
         go : (ltb r (length xs) ≡ true) ⊎ (ltb r (length xs) ≡ false)
             → (At (r + 2 * g) (probe k xs r s) → After g (sweep k xs g n (r + 2 * g) (probe k xs r s)))
             → After g (cond (ltb r (length xs)) (sweep k xs g n (r + 2 * g) (probe k xs r s)) s)
-        go (inl e) h = rw e (h (probe-at r s (ltb-true r (length xs) e) i))
+        go (inl e) h = rw e (h (sweeping-probe pos within r (ltb-true r (length xs) e) s i))
         go (inr e) h = rw e (sweeping-end pos r (ltb-false r (length xs) e) i)
 
     round-swept : (s : State) → After (2 * g) s → After g (round k xs g s)
