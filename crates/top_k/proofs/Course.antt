@@ -1,12 +1,12 @@
 -- The course of a search: the moves made so far, and those that follow from where it is.
-use Prim.Native.Nat.{ℕ, zero, suc, _+_, _-_, _*_, _≤_, _<_, min}
+use Prim.Native.Nat.{ℕ, zero, suc, _+_, _-_, _*_, _≤_, _<_}
 use native.Mathlib.Omega.{arith}
-use native.Mathlib.Nat.{add-zero, suc-add}
+use native.Mathlib.Nat.{add-zero}
 use mathlib.Core.Path.{_≡_, refl, sym, ap, ap₂, _∙_}
 use mathlib.Core.Logic.{_⊎_, inl, inr}
 use mathlib.Core.List.{List, [], _∷_, _++_, append-assoc, append-nil}
 use mathlib.Core.Bool.{Bool, true, false, cond, _||_}
-use lib.ListN.{length, drop, set, length-append, length-set}
+use lib.ListN.{length, set, length-append, length-set}
 use Rattle.bit_rows.specs.Sequences.{tally}
 use Rattle.bit_rows.proofs.Tally.{tally-append}
 use Rattle.model.specs.Lists.{any, overwrite}

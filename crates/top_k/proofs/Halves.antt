@@ -1,12 +1,12 @@
 -- Opening a node: the records of its halves, and the queue in which they wait.
 use Prim.Native.Nat.{ℕ, suc, _+_, _-_, _*_, _/_, _%_, _^_, _≤_, _<_}
 use native.Mathlib.Omega.{arith}
-use native.Mathlib.Nat.{pow-suc, add-mul, one-mul}
-use mathlib.Core.Path.{_≡_, refl, sym, ap, ap₂, _∙_}
+use native.Mathlib.Nat.{pow-suc}
+use mathlib.Core.Path.{_≡_, ap, ap₂, _∙_}
 use mathlib.Core.List.{List, [], _∷_, _++_, map, tail}
-use mathlib.Core.Bool.{Bool, true, false, cond}
+use mathlib.Core.Bool.{Bool, true, false}
 use lib.ListN.{length, length-map}
-use lib.Dec.{eqb, ltb}
+use lib.Dec.{eqb}
 use lib.Pow.{pow-pos}
 use borrow.Author.Tests.{ltb-true}
 use Rattle.bit_rows.specs.Sequences.{tally}
@@ -16,13 +16,11 @@ use Rattle.frontier.specs.Priority.{ahead, insert}
 use Rattle.frontier.specs.Heap.{queue}
 use Rattle.frontier.proofs.Callers.{Each}
 use Rattle.frontier.proofs.Queue.{length-queue}
-use Rattle.wavelet.specs.declared.Span.{Span}
-use Rattle.wavelet.specs.declared.Halves.{Halves}
 use Rattle.wavelet.specs.Levels.{entriesIn}
 use Rattle.wavelet.specs.Spans.{halvesOf, spanOf}
 use Rattle.wavelet.proofs.Spans.{span-halves}
 use Rattle.model.specs.Rows.{row}
-use Rattle.model.specs.TopK.{Node, node, start}
+use Rattle.model.specs.TopK.{Node, node}
 use Rattle.model.proofs.Sorting.{Every, every-head, every-tail, insertBy, insert-same, same-length}
 use Rattle.model.proofs.Greedy.Counts.{count-halves}
 use Rattle.model.proofs.Greedy.Nodes.{nodes, allUnder, leafly, first-leaf}

@@ -1,5 +1,5 @@
 -- The three moves on the first of the waiting nodes, as the model makes them.
-use Prim.Native.Nat.{ℕ, zero, suc, _+_, _-_, _*_, _/_, _%_, _^_, _≤_, _<_, zero-le}
+use Prim.Native.Nat.{ℕ, zero, suc, _+_, _-_, _*_, _/_, _^_, _<_, zero-le}
 use native.Mathlib.Omega.{arith}
 use native.Mathlib.Nat.{mul-one}
 use mathlib.Core.Path.{_≡_, refl, sym, ap, _∙_}

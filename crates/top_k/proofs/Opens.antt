@@ -3,9 +3,8 @@ use Prim.Native.Nat.{ℕ, suc, _+_, _-_, _*_, _%_, _^_, _≤_, _<_}
 use native.Mathlib.Omega.{arith}
 use mathlib.Core.Path.{_≡_, sym, ap, ap₂, _∙_, subst}
 use mathlib.Core.List.{List, tail}
-use mathlib.Core.Bool.{Bool, true, false}
+use mathlib.Core.Bool.{true, false}
 use lib.ListN.{length}
-use lib.Dec.{ltb}
 use lib.Pow.{pow-mono}
 use borrow.Author.Tests.{lt-ltb, le-ltb}
 use Rattle.frontier.specs.declared.Record.{Record}
@@ -17,13 +16,13 @@ use Rattle.wavelet.specs.Levels.{entriesIn, levelOf}
 use Rattle.wavelet.specs.Spans.{Ordered}
 use Rattle.wavelet.proofs.Stored.{length-entriesIn}
 use Rattle.wavelet.proofs.Spans.{span-ordered}
-use Rattle.model.specs.TopK.{Node, node}
+use Rattle.model.specs.TopK.{node}
 use Rattle.top_k.specs.declared.Search.{Search}
 use Rattle.top_k.specs.Records.{spanIn, lowOf, highOf}
 use Rattle.top_k.specs.Moves.{Searchable, countOf, livesIn, recordIn, frontierIn, Kept, First, nextMove, Moves}
 use Rattle.top_k.proofs.Tree.{inTree, tree-height, tree-start, tree-low, tree-high}
 use Rattle.top_k.proofs.Records.{second-start, first-count, span-back}
-use Rattle.top_k.proofs.Kept.{bounded, Front, front-at, front-tree, heightOf, indexOf, othersOf}
+use Rattle.top_k.proofs.Kept.{bounded, Front, front-at, front-tree, indexOf, othersOf}
 use Rattle.top_k.proofs.Halves.{low-is, high-is, open-low, open-high, open-both, some-half, both-fit}
 use Rattle.top_k.proofs.Made.{opens-kept}
 

@@ -1,11 +1,11 @@
 -- The loop of the greedy search: what holds from move to move, and the result at its end.
-use Prim.Native.Nat.{ℕ, zero, suc, _+_, _-_, _*_, _^_, _≤_, _<_, min}
+use Prim.Native.Nat.{ℕ, _-_, _*_, _^_, _≤_, _<_, min}
 use native.Mathlib.Omega.{arith}
-use native.Mathlib.Nat.{zero-mul, sub-self}
-use mathlib.Core.Path.{_≡_, refl, sym, ap, ap₂, _∙_, subst, subst₃}
+use native.Mathlib.Nat.{zero-mul}
+use mathlib.Core.Path.{_≡_, refl, sym, ap, _∙_, subst, subst₃}
 use mathlib.Core.Logic.{_⊎_, inl, inr}
 use mathlib.Core.List.{List, [], _∷_, _++_, map}
-use mathlib.Core.Bool.{Bool, true, false, cond, not, _&&_}
+use mathlib.Core.Bool.{Bool, true, false, not, _&&_}
 use lib.ListN.{length, drop, replicate, length-map, length-replicate}
 use lib.Dec.{ltb}
 use borrow.Author.Tests.{ltb-true, ltb-false, lt-ltb, le-ltb}
@@ -14,26 +14,25 @@ use Rattle.frontier.specs.declared.Record.{Record}
 use Rattle.frontier.specs.Heap.{queue}
 use Rattle.frontier.proofs.Queue.{length-queue}
 use Rattle.frontier.proofs.Records.{drop-further}
-use Rattle.wavelet.specs.declared.Span.{Span}
 use Rattle.wavelet.specs.Levels.{entriesIn}
 use Rattle.wavelet.specs.Spans.{spanOf}
 use Rattle.wavelet.proofs.Stored.{length-entriesIn, within-entriesIn}
 use Rattle.wavelet.proofs.Spans.{span-root}
-use Rattle.model.specs.Lists.{part, overwrite}
+use Rattle.model.specs.Lists.{overwrite}
 use Rattle.model.specs.Outcome.{answered}
 use Rattle.model.specs.Rows.{height}
 use Rattle.model.specs.Queries.{Pair, flat}
-use Rattle.model.specs.TopK.{Node, node, Answer, topK, endedOf, pairsOf, foundInto}
-use Rattle.model.specs.Search.{Waiting, Move, namedIn, answerOf, begin, searchMoves}
+use Rattle.model.specs.TopK.{node, topK, endedOf, pairsOf, foundInto}
+use Rattle.model.specs.Search.{Waiting, namedIn, answerOf, begin, searchMoves}
 use Rattle.model.proofs.Lists.{length-part, within-part}
-use Rattle.model.proofs.Greedy.Waits.{Waits, blocks, waits-begin}
+use Rattle.model.proofs.Greedy.Waits.{blocks, waits-begin}
 use Rattle.model.proofs.Greedy.Answers.{pairs-answer}
 use Rattle.model.proofs.Greedy.Theorem.{greedy, named}
 use Rattle.top_k.specs.declared.Search.{Search}
 use Rattle.top_k.specs.declared.Ended.{Ended}
 use Rattle.top_k.specs.declared.greedy.Progress.{Progress}
 use Rattle.top_k.specs.Records.{packed, waitingIn}
-use Rattle.top_k.specs.Moves.{Searchable, rangeOf, countOf, livesIn, recordIn, frontierIn, Kept, nextMove}
+use Rattle.top_k.specs.Moves.{Searchable, rangeOf, recordIn, frontierIn, Kept, nextMove}
 use Rattle.top_k.specs.Results.{Begun, rootOf, goesOn, moveAt, after, roomFor, writtenBy, Advanced, endedIs, endedBy, resultIs, foundIn}
 use Rattle.top_k.proofs.Kept.{range-within, documents-fit, frontier-is, kept-of}
 use Rattle.top_k.proofs.Listed.{length-topK}

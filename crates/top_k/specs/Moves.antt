@@ -1,5 +1,5 @@
 -- The waiting nodes in the lent work slice, and what a move makes of them. Document 01, "The questions", the shortlist.
-use Prim.Native.Nat.{ℕ, _+_, _*_, _/_, _^_, _≤_, _<_}
+use Prim.Native.Nat.{ℕ, _*_, _/_, _^_, _≤_}
 use mathlib.Core.Path.{_≡_}
 use mathlib.Core.List.{List, [], _∷_, map, tail}
 use mathlib.Core.Bool.{Bool}

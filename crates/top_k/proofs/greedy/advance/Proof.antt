@@ -1,7 +1,6 @@
 -- `advance`: what `step` answers is the move, and each arm says what follows from it.
 use borrow.Author.Needs.{needs}
 use Prim.Native.Nat.{ℕ, _-_, _/_, _^_}
-use native.Mathlib.Omega.{arith}
 use mathlib.Core.Path.{refl, ap, subst}
 use mathlib.Core.Bool.{true, false}
 use Rattle.model.specs.TopK.{node}

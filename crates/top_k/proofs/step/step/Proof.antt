@@ -1,10 +1,9 @@
 -- `step`: the first record tells whether its node is a leaf, and what is left whether another is opened.
 use borrow.Author.Needs.{needs}
-use Prim.Native.Nat.{suc, _-_, _/_, _%_, _^_}
+use Prim.Native.Nat.{suc, _-_, _/_, _%_}
 use native.Mathlib.Omega.{arith}
-use mathlib.Core.Path.{_≡_, refl, sym, ap, _∙_}
+use mathlib.Core.Path.{_≡_, refl, ap}
 use Rattle.model.specs.TopK.{node}
-use Rattle.top_k.specs.Moves.{movedIs, nextMove, frontierIn}
 use Rattle.top_k.proofs.Kept.{front-at, first-depth, indexOf, othersOf}
 use Rattle.top_k.proofs.Made.{names-move, names-kept, spent-move, opens-move, same-kept}
 use Rattle.top_k.proofs.step.step.Statement.{statement}
