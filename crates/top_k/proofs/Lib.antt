@@ -10,3 +10,4 @@ pub mod Listed
 pub mod Advances
 pub mod Course
 pub mod Searching
+pub mod Demand3

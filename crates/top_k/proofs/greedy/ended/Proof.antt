@@ -1,3 +1,4 @@
+-- `ended`: by the flag.
 use borrow.Author.Needs.{needs}
 use Rattle.top_k.proofs.greedy.ended.Statement.{statement}
 use Rattle.top_k.proofs.greedy.ended.Tie as tie

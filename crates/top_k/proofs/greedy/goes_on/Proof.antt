@@ -1,3 +1,4 @@
+-- `goes_on`: by the three tests.
 use borrow.Author.Tests.{lt-ltb, le-ltb}
 use native.Mathlib.Omega.{arith}
 use Rattle.top_k.proofs.greedy.goes_on.Statement.{statement}

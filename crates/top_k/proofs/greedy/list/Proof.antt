@@ -1,3 +1,4 @@
+-- `list`: two stores.
 use borrow.Author.Needs.{needs}
 use lib.ListN.{length-set}
 use native.Mathlib.Omega.{arith}

@@ -1,3 +1,4 @@
+-- `pack`: the numbers fit 32 bits.
 use borrow.Author.Needs.{needs}
 use mathlib.Core.Path.{refl}
 use Rattle.top_k.specs.Records.{packed}
