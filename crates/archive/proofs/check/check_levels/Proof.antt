@@ -58,4 +58,13 @@ returns-4 c =
     (ap Accepted (s .pre .fitting .shape))
 
 pub check-levels-spec : {M : Type 1} → statement M
-check-levels-spec = tie.close (tie.spec samples-hold-requires returns unused-hold-requires returns-2 entries-hold-requires returns-3 returns-4)
+check-levels-spec =
+    tie.close
+    (tie.spec
+    samples-hold-requires
+    returns
+    unused-hold-requires
+    returns-2
+    entries-hold-requires
+    returns-3
+    returns-4)

@@ -55,4 +55,14 @@ returns-4 c =
     rw (paired (c .before .before .before .before .before), sized (c .before .before .before), e) (c .check-levels .ensures)
 
 pub check-parts-spec : {M : Type 1} → statement M
-check-parts-spec = tie.close (tie.spec pairs-hold-requires returns archive-length-requires returns-2 table-holds-requires returns-3 check-levels-requires returns-4)
+check-parts-spec =
+    tie.close
+    (tie.spec
+    pairs-hold-requires
+    returns
+    archive-length-requires
+    returns-2
+    table-holds-requires
+    returns-3
+    check-levels-requires
+    returns-4)

@@ -78,4 +78,17 @@ returns-4 c =
     (ap withinLimits e ∙ within (c .before .before)) (c .before .layout-of .ensures ∙ ap layoutOf (sym e))))
 
 pub open-spec : {M : Type 1} → statement M
-open-spec = tie.close (tie.spec returns number-requires returns-2 number-requires-2 number-requires-3 number-requires-4 within-limits-requires returns-3 layout-of-requires check-parts-requires returns-4)
+open-spec =
+    tie.close
+    (tie.spec
+    returns
+    number-requires
+    returns-2
+    number-requires-2
+    number-requires-3
+    number-requires-4
+    within-limits-requires
+    returns-3
+    layout-of-requires
+    check-parts-requires
+    returns-4)

@@ -55,4 +55,16 @@ returns-3 c =
     rw (pairs-apart (s .args .archive .now) l (s .pre .1), first, second) (c .pair-is3 .ensures)
 
 pub pairs-hold-spec : {M : Type 1} → statement M
-pairs-hold-spec = tie.close (tie.spec mul-pair-is pair-is-requires returns sub-pair-is pair-is-requires-2 returns-2 add-pair-is mul-pair-is-2 pair-is-requires-3 returns-3)
+pairs-hold-spec =
+    tie.close
+    (tie.spec
+    mul-pair-is
+    pair-is-requires
+    returns
+    sub-pair-is
+    pair-is-requires-2
+    returns-2
+    add-pair-is
+    mul-pair-is-2
+    pair-is-requires-3
+    returns-3)

@@ -49,4 +49,15 @@ returns c =
     c .unused-clear .ensures ∙ ap (λ (x : ℕ). unusedClear (s .t .entries) (take x (drop a (s .archive .now)))) (add-sub-cancel-left a w)
 
 pub row-clear-spec : {M : Type 1} → statement M
-row-clear-spec = tie.close (tie.spec add-w mul-a add-a add-e sub-unused-clear part-unused-clear-start part-unused-clear-end unused-clear-requires returns)
+row-clear-spec =
+    tie.close
+    (tie.spec
+    add-w
+    mul-a
+    add-a
+    add-e
+    sub-unused-clear
+    part-unused-clear-start
+    part-unused-clear-end
+    unused-clear-requires
+    returns)

@@ -85,4 +85,23 @@ returns c =
     (add-sub-cancel-left a w) (add-sub-cancel-left b v)
 
 pub row-sampled-spec : {M : Type 1} → statement M
-row-sampled-spec = tie.close (tie.spec add-w mul-w mul-a add-a add-e add-v mul-b add-b add-f sub-samples-right part-samples-right-start part-samples-right-end sub-samples-right-2 part-samples-right-start-2 part-samples-right-end-2 samples-right-requires returns)
+row-sampled-spec =
+    tie.close
+    (tie.spec
+    add-w
+    mul-w
+    mul-a
+    add-a
+    add-e
+    add-v
+    mul-b
+    add-b
+    add-f
+    sub-samples-right
+    part-samples-right-start
+    part-samples-right-end
+    sub-samples-right-2
+    part-samples-right-start-2
+    part-samples-right-end-2
+    samples-right-requires
+    returns)

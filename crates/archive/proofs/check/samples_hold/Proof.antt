@@ -52,4 +52,15 @@ returns-2 c =
     sym (at .inv .1 ∙ all-end (sampledAt (s .archive .now) (s .t)) (at .j) (s .t .height) (c .if1 .left))
 
 pub samples-hold-spec : {M : Type 1} → statement M
-samples-hold-spec = tie.close (tie.spec Inv-loop μ-loop loop-holds row-sampled-requires returns add-j loop-less loop-again returns-2)
+samples-hold-spec =
+    tie.close
+    (tie.spec
+    Inv-loop
+    μ-loop
+    loop-holds
+    row-sampled-requires
+    returns
+    add-j
+    loop-less
+    loop-again
+    returns-2)

@@ -87,4 +87,20 @@ returns-2 c =
     sym (at .inv .1 ∙ table-end (s .args .archive .now) (l .levels .entries) (at .start) (at .t) (l .terms) (c .before .if1 .left))
 
 pub table-holds-spec : {M : Type 1} → statement M
-table-holds-spec = tie.close (tie.spec Inv-loop μ-loop loop-holds mul-at add-at number-requires returns add-number number-requires-2 add-start add-t loop-less loop-again returns-2)
+table-holds-spec =
+    tie.close
+    (tie.spec
+    Inv-loop
+    μ-loop
+    loop-holds
+    mul-at
+    add-at
+    number-requires
+    returns
+    add-number
+    number-requires-2
+    add-start
+    add-t
+    loop-less
+    loop-again
+    returns-2)

@@ -52,4 +52,15 @@ returns-2 c =
     sym (at .inv .1 ∙ all-end (clearAt (s .archive .now) (s .t)) (at .i) (s .t .height) (c .if1 .left))
 
 pub unused-hold-spec : {M : Type 1} → statement M
-unused-hold-spec = tie.close (tie.spec Inv-loop μ-loop loop-holds row-clear-requires returns add-i loop-less loop-again returns-2)
+unused-hold-spec =
+    tie.close
+    (tie.spec
+    Inv-loop
+    μ-loop
+    loop-holds
+    row-clear-requires
+    returns
+    add-i
+    loop-less
+    loop-again
+    returns-2)
