@@ -8,8 +8,8 @@ use mathlib.Core.List.{List, [], _∷_, _++_, map}
 use mathlib.Core.Bool.{Bool, true, false, not, cond, _&&_, _||_}
 use lib.ListN.{length, getD, take, drop, replicate, length-take, take-append-drop}
 use lib.Dec.{leb, ltb, eqb}
-use borrow.Author.Tests.{leb-false, leb-true, le-leb, lt-leb, eqb-true, eq-eqb, ne-eqb, lt-ltb}
-use Rattle.bit_rows.specs.Sequences.{bit, tally, upFrom, below, occurrences}
+use borrow.Author.Tests.{leb-false, leb-true, le-leb, lt-leb, eqb-true, eq-eqb, lt-ltb}
+use Rattle.bit_rows.specs.Sequences.{bit, tally, below, occurrences}
 use Rattle.bit_rows.proofs.Tests.{look, and-both, both-and, le-or-lt}
 use Rattle.bit_rows.proofs.Tally.{tally-append, tally-le, tally-none, tally-map, tally-take-le, length-upFrom, getD-upFrom}
 use Rattle.model.specs.Lists.{overwrite}
@@ -23,6 +23,7 @@ use Rattle.model.proofs.Height.{le-pow-height}
 use Rattle.model.proofs.Lists.{tally-keep, tally-take-lt}
 use Rattle.model.proofs.Sorting.{Every, every-head, every-tail, every-cons, every-take, Sorted, same-length}
 use Rattle.model.proofs.Ranking.{aheadPair, ranking-sorted, ranking-same}
+use Rattle.model.proofs.Greedy.Nodes.{upFrom-once}
 use Rattle.model.proofs.Greedy.Answers.{figureOf}
 use Rattle.model.proofs.Greedy.Theorem.{openings, topK-mono}
 use Rattle.top_k.specs.declared.Search.{Search}
@@ -64,18 +65,6 @@ sorted-take : (m : ℕ) (ps : List Pair) → Sorted aheadPair ps → Sorted ahea
 sorted-take zero ps s = tt
 sorted-take (suc m) [] s = tt
 sorted-take (suc m) (p ∷ ps) s = (every-take (aheadPair p) m ps (s .0), sorted-take m ps (s .1))
-
-upFrom-past : (d s n : ℕ) → d < s → tally (eqb d) (upFrom s n) ≡ 0
-upFrom-past d s zero l = refl
-upFrom-past d s (suc n) l = rw (ne-eqb d s (omega arith), upFrom-past d (suc s) n (omega arith))
-
-upFrom-once : (d s n : ℕ) → tally (eqb d) (upFrom s n) ≤ 1
-upFrom-once d s zero = omega arith
-upFrom-once d s (suc n) = go (look (eqb d s)) (upFrom-once d (suc s) n)
-  where
-    go : (eqb d s ≡ true) ⊎ (eqb d s ≡ false) → tally (eqb d) (upFrom (suc s) n) ≤ 1 → bit (eqb d s) + tally (eqb d) (upFrom (suc s) n) ≤ 1
-    go (inl e) i = let k = eqb-true d s e in rw (e, upFrom-past d (suc s) n (omega arith)) (omega arith)
-    go (inr e) i = rw e (omega arith)
 
 -- ---- the full list
 

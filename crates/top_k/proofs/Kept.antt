@@ -1,8 +1,8 @@
 -- Laws of a frontier that is kept in the work slice: its nodes, the first of them, and what shows that it is kept.
 use Prim.Native.Nat.{ℕ, _-_, _*_, _/_, _%_, _^_, _≤_, _<_}
 use native.Mathlib.Omega.{arith}
-use mathlib.Core.Path.{_≡_, refl, sym, ap, _∙_, subst}
-use mathlib.Core.List.{List, [], _∷_, map, tail}
+use mathlib.Core.Path.{_≡_, sym, ap, _∙_, subst}
+use mathlib.Core.List.{List, _∷_, map, tail}
 use mathlib.Core.Bool.{true}
 use lib.ListN.{length, length-map}
 use Rattle.frontier.specs.declared.Record.{Record}
@@ -18,16 +18,12 @@ use Rattle.model.proofs.Height.{le-pow-height}
 use Rattle.model.proofs.Sorting.{every-head}
 use Rattle.model.proofs.Greedy.Abstract.{waiting}
 use Rattle.model.proofs.Greedy.Frontier.{Ready}
-use Rattle.model.proofs.Greedy.Waits.{Waits, blocks, frontier-length}
+use Rattle.model.proofs.Greedy.Waits.{Waits, blocks, blocks-waiting, frontier-length}
 use Rattle.top_k.specs.declared.Search.{Search}
 use Rattle.top_k.specs.Records.{waitingIn}
 use Rattle.top_k.specs.Moves.{Searchable, rangeOf, countOf, livesIn, recordIn, frontierIn, Kept, First}
 use Rattle.top_k.proofs.Tree.{inTree, ready-tree}
 use Rattle.top_k.proofs.Records.{Bounded, second-depth, read-all}
-
-blocks-waiting : (count : Node → ℕ) (ms : List Node) → blocks (map (waiting count) ms) ≡ ms
-blocks-waiting count [] = refl
-blocks-waiting count (m ∷ ms) = ap (λ (r : List Node). m ∷ r) (blocks-waiting count ms)
 
 module _ (bytes : List ℕ) (s : Search) (ok : Searchable bytes s) where
   pub bounded : Bounded (s .levels .height) (entriesIn bytes (s .levels)) (s .a) (s .b)

@@ -8,7 +8,7 @@ use mathlib.Core.List.{List, [], _∷_, _++_, map}
 use mathlib.Core.Bool.{Bool, true, false, not, _&&_}
 use lib.ListN.{length, drop, replicate, length-map, length-replicate}
 use lib.Dec.{ltb}
-use borrow.Author.Tests.{ltb-true, ltb-false, lt-ltb, le-ltb}
+use borrow.Author.Tests.{ltb-true, ltb-false, lt-ltb, le-ltb, not-true, not-false}
 use Rattle.bit_rows.proofs.Tests.{look, and-both, and-cases}
 use Rattle.frontier.specs.declared.Record.{Record}
 use Rattle.frontier.specs.Heap.{queue}
@@ -140,11 +140,7 @@ module _ (bytes : List ℕ) (s : Search) (ok : Searchable bytes s) (k allowance 
 
   module _ (on : goesOn p k ≡ true) (room : 2 * min k (s .documents) ≤ length out₀) where
     fresh : p .spent ≡ false
-    fresh = go (p .spent) (and-both (not (p .spent)) (ltb 0 (p .waiting) && ltb (p .listed) k) on .0)
-      where
-        go : (b : Bool) → not b ≡ true → b ≡ false
-        go true e = sym e
-        go false e = refl
+    fresh = not-true (p .spent) (and-both (not (p .spent)) (ltb 0 (p .waiting) && ltb (p .listed) k) on .0)
 
     both : (ltb 0 (p .waiting) ≡ true) × (ltb (p .listed) k ≡ true)
     both = and-both (ltb 0 (p .waiting)) (ltb (p .listed) k) (and-both (not (p .spent)) (ltb 0 (p .waiting) && ltb (p .listed) k) on .1)
@@ -199,12 +195,8 @@ module _ (bytes : List ℕ) (s : Search) (ok : Searchable bytes s) (k allowance 
 
   module _ (off : goesOn p k ≡ false) where
     over : (p .spent ≡ true) ⊎ ((frontierIn s w (p .waiting) ≡ []) ⊎ (k ≤ p .listed))
-    over = go (look (p .spent)) (and-cases (not (p .spent)) (ltb 0 (p .waiting) && ltb (p .listed) k) off)
+    over = go (and-cases (not (p .spent)) (ltb 0 (p .waiting) && ltb (p .listed) k) off)
       where
-        not-true' : (b : Bool) → not b ≡ false → b ≡ true
-        not-true' true e = refl
-        not-true' false e = sym e
-
         last : (ltb 0 (p .waiting) ≡ false) ⊎ (ltb (p .listed) k ≡ false) → (frontierIn s w (p .waiting) ≡ []) ⊎ (k ≤ p .listed)
         last (inl e) =
             let l = ltb-false 0 (p .waiting) e in
@@ -212,11 +204,10 @@ module _ (bytes : List ℕ) (s : Search) (ok : Searchable bytes s) (k allowance 
             inl (ap (frontierIn s w) z)
         last (inr e) = inr (ltb-false (p .listed) k e)
 
-        go : (p .spent ≡ true) ⊎ (p .spent ≡ false) → (not (p .spent) ≡ false) ⊎ ((ltb 0 (p .waiting) && ltb (p .listed) k) ≡ false)
+        go : (not (p .spent) ≡ false) ⊎ ((ltb 0 (p .waiting) && ltb (p .listed) k) ≡ false)
             → (p .spent ≡ true) ⊎ ((frontierIn s w (p .waiting) ≡ []) ⊎ (k ≤ p .listed))
-        go (inl e) d = inl e
-        go (inr e) (inl d) = inl (not-true' (p .spent) d)
-        go (inr e) (inr d) = inr (last (and-cases (ltb 0 (p .waiting)) (ltb (p .listed) k) d))
+        go (inl d) = inl (not-false (p .spent) d)
+        go (inr d) = inr (last (and-cases (ltb 0 (p .waiting)) (ltb (p .listed) k) d))
 
     -- the answer is read off the moves
     answer : topK (height (s .documents)) (s .documents) ys k allowance ≡ answerOf (S .course .moves)

@@ -84,8 +84,11 @@ endedBy p allowance = cond (p .spent) (spentWith (p .listed) allowance) (doneWit
 abbrev pub resultIs : Ended → List ℕ → List ℕ → SearchResult model.Ended
 resultIs r answers work = record { outcome = answered (endedIs r); answers = answers; work = work }
 
--- what is to be found: as `greedyResult` has it for an accepted question
+-- what is found in the entries xs of N documents, as `greedyResult` has it for an accepted question
+abbrev pub foundOf : ℕ → List ℕ → ℕ → ℕ → Found model.Ended
+foundOf N xs k allowance =
+    let answer = topK (height N) N xs k allowance in
+    record { documents = N; pairs = pairsOf answer; answer = endedOf answer }
+
 abbrev pub foundIn : List ℕ → Search → ℕ → ℕ → Found model.Ended
-foundIn bytes s k allowance =
-    let answer = topK (height (s .documents)) (s .documents) (rangeOf bytes s) k allowance in
-    record { documents = s .documents; pairs = pairsOf answer; answer = endedOf answer }
+foundIn bytes s k allowance = foundOf (s .documents) (rangeOf bytes s) k allowance

@@ -86,7 +86,7 @@ upFrom-past : (v s n : ℕ) → v < s → tally (eqb v) (upFrom s n) ≡ 0
 upFrom-past v s zero h = refl
 upFrom-past v s (suc n) h = rw (ne-eqb v s (omega arith), upFrom-past v (suc s) n (omega arith))
 
-upFrom-once : (v s n : ℕ) → tally (eqb v) (upFrom s n) ≤ 1
+pub upFrom-once : (v s n : ℕ) → tally (eqb v) (upFrom s n) ≤ 1
 upFrom-once v s zero = omega arith
 upFrom-once v s (suc n) = go (look (eqb v s)) (upFrom-once v (suc s) n)
   where

@@ -26,7 +26,7 @@ pub record Waits (count : Node → ℕ) (lives : Node → Bool) (h : ℕ) (front
   pub counts : frontier ≡ map (waiting count) (blocks frontier)
   pub ready : Ready count lives h (blocks frontier)
 
-blocks-waiting : (count : Node → ℕ) (ms : List Node) → blocks (map (waiting count) ms) ≡ ms
+pub blocks-waiting : (count : Node → ℕ) (ms : List Node) → blocks (map (waiting count) ms) ≡ ms
 blocks-waiting count [] = refl
 blocks-waiting count (m ∷ ms) = ap (λ (r : List Node). m ∷ r) (blocks-waiting count ms)
 
