@@ -24,9 +24,10 @@ module _ {bytes : List ℕ} {s : Search} (q : Searchable bytes s) where
   pub count-few : (d : ℕ) → occurrences d (rangeOf bytes s) < 2 ^ 16
   count-few d = omega (arith, tally-le-length (eqb d) (rangeOf bytes s), length-range, range-few)
 
-  pub lent-range : {k : ℕ} {work out : List ℕ} → s .documents ≤ length work → 2 * min k (s .documents) ≤ length out
+  pub lent-range : {k : ℕ} {work out : List ℕ} → 0 < k → s .documents ≤ length work → 2 * min k (s .documents) ≤ length out
       → Lent (s .documents) k (rangeOf bytes s) work out
-  lent-range places room = record {
+  lent-range some places room = record {
+    some = some;
     within = within-part (s .documents) (s .a) (s .b) (entriesIn bytes (s .levels)) (q .within);
     few = q .few;
     places = places;

@@ -1,4 +1,5 @@
-// Probing: documents at ranks of the range are seen, marked in the work slice and entered among the candidates, until these are the full list.
+// Probing, after document 004, section 4.2: documents at ranks of the range are marked in the work slice and entered among
+// the candidates, round by round, until these are the full list.
 use crate::Search;
 use crate::candidates::enter;
 use crate::clear::clear;
@@ -74,7 +75,7 @@ fn sweep(
 // All rounds, over a work slice that marks no document: the full list in the answer slice. Answers how many pairs it has.
 fn full_list(bytes: &[u8], s: Search, k: usize, answers: &mut [u32], work: &mut [u32]) -> usize
     requires { ⌜ Searchable (now bytes) s ⌝ }
-    requires { ⌜ Lent (s .documents) k (rangeOf (now bytes) s) (now work) (now answers) ⌝ }
+    requires { ⌜ (s .documents ≤ length (now work)) × (2 * min k (s .documents) ≤ length (now answers)) ⌝ }
     requires { ⌜ marked (s .documents) (now work) ≡ unseen ⌝ }
     ensures { λ n. ⌜ n ≡ length (fullList (s .documents) k (rangeOf (now (bytes .entry)) s)) ⌝ }
     ensures { λ n. ⌜ now (answers .exit) ≡ overwrite (flat (fullList (s .documents) k (rangeOf (now (bytes .entry)) s))) (now (answers .entry)) ⌝ }

@@ -19,9 +19,9 @@ pub fn first_step(m: usize) -> usize
     g
 }
 
-// Whether another round follows the one with step g.
+// Whether another round follows the one with step g, after which an unseen document has at most g - 1 entries.
 pub fn goes_on(answers: &[u32], held: usize, k: usize, g: usize) -> bool
-    requires { ⌜ (0 < g) × (held ≤ 4096) × (2 * held ≤ length (now answers)) ⌝ }
+    requires { ⌜ (0 < g) × (0 < k) × (held ≤ 4096) × (2 * held ≤ length (now answers)) ⌝ }
     ensures { λ r. ⌜ r ≡ goesOn k g (pairsIn (now (answers .entry)) held) ⌝ }
 {
     if g == 1 {
@@ -30,10 +30,8 @@ pub fn goes_on(answers: &[u32], held: usize, k: usize, g: usize) -> bool
     if held != k {
         return true;
     }
-    if k == 0 {
-        return true;
-    }
     let j = k - 1;
     let last = answers[2 * j + 1] as usize;
-    last < g
+    let unseen = g - 1;
+    last <= unseen
 }

@@ -2,7 +2,6 @@
 use Prim.Native.Nat.{ℕ, zero, suc, _+_, _-_, _*_, _/_, _^_, _≤_, _<_, min}
 use native.Mathlib.Omega.{arith}
 use native.Mathlib.Nat.{pow-suc}
-use native.Mathlib.Decide.{ℕ-discrete}
 use mathlib.Core.Path.{_≡_, refl, sym, ap, _∙_}
 use mathlib.Core.Logic.{_⊎_, inl, inr}
 use mathlib.Core.List.{List}
@@ -24,8 +23,9 @@ use Rattle.model.proofs.Probing.Rounds.{Swept, goesOn, swept-stop}
 use Rattle.model.proofs.Probing.Slices.{pairsIn, length-pairs, getD-pairs, overwrite-pairs, drop-more, marked, marked-at, marked-set}
 use Rattle.model.proofs.Probing.Entering.{Room, Entered}
 
--- the entries are documents below N, and the slices have the room that was asked for
+-- some are to be listed, the entries are documents below N, and the slices have the room that was asked for
 pub record Lent (N k : ℕ) (xs work out : List ℕ) : Type 0 where
+  pub some : 0 < k
   pub within : Within N xs
   pub few : N ≤ 4096
   pub places : N ≤ length work
@@ -57,6 +57,7 @@ kept-trans {N} {n} {m} {l} {a} {b} {c} {d} {e} {f} p q =
 module _ {N k : ℕ} {xs work out : List ℕ} (lent : Lent N k xs work out) where
   pub lent-same : {work′ out′ : List ℕ} → length work′ ≡ length work → length out′ ≡ length out → Lent N k xs work′ out′
   lent-same a b = record {
+    some = lent .some;
     within = lent .within;
     few = lent .few;
     places = omega (arith, lent .places);
@@ -105,6 +106,7 @@ module _ {N k : ℕ} {xs work out : List ℕ} (lent : Lent N k xs work out) wher
           let n = length-pairs out held in
           let room = lent .room in
           record {
+            some = lent .some;
             few = omega arith;
             short = omega arith;
             inside = omega arith;
@@ -131,22 +133,18 @@ module _ (out : List ℕ) (held k g : ℕ) where
   pub goes-on-last : g ≡ 1 → false ≡ goesOn k g (pairsIn out held)
   goes-on-last e = rw (le-ltb 1 g (omega arith))
 
-  -- where k are not held, or k is 0
-  pub goes-on-short : 1 < g → (held ≡ k → k ≡ 0) → true ≡ goesOn k g (pairsIn out held)
-  goes-on-short l h = rw (lt-ltb 1 g l, go (ℕ-discrete held k))
-    where
-      go : Dec (held ≡ k) → settled k g (pairsIn out held) ≡ false
-      go (no n) = rw (length-pairs out held, ne-eqb held k n)
-      go (yes e) = rw (e, h e, lt-leb g 0 (omega arith))
+  pub goes-on-short : 1 < g → (held ≡ k → ⊥) → true ≡ goesOn k g (pairsIn out held)
+  goes-on-short l h = rw (lt-ltb 1 g l, length-pairs out held, ne-eqb held k h)
 
-  pub goes-on-full : 1 < g → (j : ℕ) → k ≡ suc j → held ≡ k → ltb (getD out (2 * j + 1) 0) g ≡ goesOn k g (pairsIn out held)
+  -- g - 1 is the most that an unseen document may have
+  pub goes-on-full : 1 < g → (j : ℕ) → k ≡ suc j → held ≡ k → leb (getD out (2 * j + 1) 0) (g - 1) ≡ goesOn k g (pairsIn out held)
   goes-on-full l j some full =
       let q : k - 1 ≡ j = omega arith in
       rw (lt-ltb 1 g l, length-pairs out held, eq-eqb held k full, q, getD-pairs out held j (omega arith)) (go (getD out (2 * j + 1) 0) (le-or-lt g (getD out (2 * j + 1) 0)))
     where
-      go : (c : ℕ) → (g ≤ c) ⊎ (c < g) → ltb c g ≡ not (leb g c)
-      go c (inl h) = rw (le-ltb c g h, le-leb g c h)
-      go c (inr h) = rw (lt-ltb c g h, lt-leb g c h)
+      go : (c : ℕ) → (g ≤ c) ⊎ (c < g) → leb c (g - 1) ≡ not (leb g c)
+      go c (inl h) = rw (lt-leb c (g - 1) (omega (arith, l)), le-leb g c h)
+      go c (inr h) = rw (le-leb c (g - 1) (omega (arith, l)), lt-leb g c h)
 
 -- ---- steps
 

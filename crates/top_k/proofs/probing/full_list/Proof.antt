@@ -7,7 +7,7 @@ use Rattle.model.proofs.Probing.Rounds.{Swept, swept-start}
 use Rattle.model.proofs.Probing.Slices.{pairsIn, marked}
 use Rattle.model.proofs.Probing.Steps.{Lent, lent-same, Kept, kept-refl, kept-trans, held-room, swept-written, goes-on-more, Power, power-half}
 use Rattle.top_k.specs.Searchable.{rangeOf}
-use Rattle.top_k.proofs.Ranges.{length-range, range-few}
+use Rattle.top_k.proofs.Ranges.{length-range, range-few, lent-range}
 use borrow.Author.Needs.{needs}
 use Rattle.top_k.proofs.probing.full_list.Statement.{statement}
 use Rattle.top_k.proofs.probing.full_list.Tie as tie
@@ -34,7 +34,8 @@ sweep-requires : tie.Need-sweep-requires Inv-loop μ-loop
 sweep-requires c κs =
     let s = c .before .before .before .before .before .before .before .before in
     let f = c .before .before .first-step .ensures .1 in
-    ((s .pre .0, f .0, f .1), (s .pre .1 .0, rw (s .pre .1 .1) (swept-start (omega (arith, f .2, length-range (s .pre .0))))))
+    let lent = lent-range (s .pre .0) (omega (arith, c .before .before .before .before .if1 .left)) (s .pre .1 .0 .0) (s .pre .1 .0 .1) in
+    ((s .pre .0, f .0, f .1), (lent, rw (s .pre .1 .1) (swept-start (omega (arith, f .2, length-range (s .pre .0))))))
 
 loop-holds : tie.Need-loop-holds Inv-loop μ-loop
 loop-holds c =
@@ -45,7 +46,7 @@ loop-holds c =
       f .0,
       (f .1 .0, f .1 .1),
       kept-refl (s .args .s .documents) (w .result) (w .last .1 .1 .1 .1 .1 .1 .0) (w .last .1 .1 .1 .1 .1 .0),
-      lent-same (s .pre .1 .0) (omega arith) (omega arith),
+      lent-range (s .pre .0) (omega (arith, c .before .before .before .before .before .before .before .before .before .if1 .left)) (omega (arith, s .pre .1 .0)) (omega (arith, s .pre .1 .0)),
       refl,
       refl,
     )
@@ -55,7 +56,7 @@ goes-on-requires c κs =
     let s = c .before .before .before .before .before .before .before .before .before .before .before .before .before .before .before in
     let l = c .before .loop in
     let t = held-room (l .inv .4) (l .held) (marked (s .args .s .documents) (l .work)) (l .inv .0 .held) in
-    (l .inv .2 .0, t .1, t .2)
+    (l .inv .2 .0, l .inv .4 .some, t .1, t .2)
 
 sweep-requires-2 : tie.Need-sweep-requires-2 Inv-loop μ-loop
 sweep-requires-2 c κs =

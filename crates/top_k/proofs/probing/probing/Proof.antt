@@ -5,7 +5,6 @@ use mathlib.Core.Path.{ap, _∙_}
 use lib.ListN.{length, drop, replicate}
 use Rattle.model.proofs.Probing.Slices.{marked, marked-clear, clear-again}
 use Rattle.top_k.specs.Full.{listedIs}
-use Rattle.top_k.proofs.Ranges.{lent-range}
 use borrow.Author.Needs.{needs}
 use Rattle.top_k.proofs.probing.probing.Statement.{statement}
 use Rattle.top_k.proofs.probing.probing.Tie as tie
@@ -18,7 +17,7 @@ full-list-requires c κs =
     let s = c .before .before .before .before .before .before .before .before .before in
     let N = s .args .s .documents in
     let rest = drop (length (replicate {A = ℕ} N 0)) (s .args .work .now) in
-    (s .pre .0, (lent-range (s .pre .0) (omega arith) (s .pre .1 .0), ap (marked N) (c .before .before .before .before .clear .ensures) ∙ marked-clear N N rest (omega arith)))
+    (s .pre .0, ((omega arith, s .pre .1 .0), ap (marked N) (c .before .before .before .before .clear .ensures) ∙ marked-clear N N rest (omega arith)))
 
 mul-clear : tie.Need-mul-clear
 mul-clear c = search needs

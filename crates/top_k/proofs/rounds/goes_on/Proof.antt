@@ -11,12 +11,7 @@ returns c = let a = c .before .args in goes-on-last (a .answers .now) (a .held) 
 returns-2 : tie.Need-returns-2
 returns-2 c =
     let a = c .before .before .args in
-    goes-on-short (a .answers .now) (a .held) (a .k) (a .g) (omega arith) (λ e. absurd (c .if2 .taken e))
-
-returns-3 : tie.Need-returns-3
-returns-3 c =
-    let a = c .before .before .before .args in
-    goes-on-short (a .answers .now) (a .held) (a .k) (a .g) (omega arith) (λ e. c .if3 .taken)
+    goes-on-short (a .answers .now) (a .held) (a .k) (a .g) (omega arith) (c .if2 .taken)
 
 sub-j : tie.Need-sub-j
 sub-j c = search needs
@@ -34,11 +29,14 @@ shared-slice-read-last : tie.Need-shared-slice-read-last
 shared-slice-read-last c = search needs
 
 cast-last : tie.Need-cast-last
-cast-last c = let a = c .before .before .before .before .args in omega (arith, c .shared-slice-known .given (2 * (a .k - 1) + 1))
+cast-last c = let a = c .before .before .before .args in omega (arith, c .shared-slice-known .given (2 * (a .k - 1) + 1))
 
-returns-4 : tie.Need-returns-4
-returns-4 c =
-    let a = c .before .before .before .before .args in
+sub-unseen : tie.Need-sub-unseen
+sub-unseen c = search needs
+
+returns-3 : tie.Need-returns-3
+returns-3 c =
+    let a = c .before .before .before .args in
     goes-on-full (a .answers .now) (a .held) (a .k) (a .g) (omega arith) (a .k - 1) (omega arith) (omega arith)
 
 pub goes-on-spec : {M : Type 1} → statement M
@@ -47,11 +45,11 @@ goes-on-spec =
     (tie.spec
     returns
     returns-2
-    returns-3
     sub-j
     mul-last
     add-last
     mul-last-2
     shared-slice-read-last
     cast-last
-    returns-4)
+    sub-unseen
+    returns-3)
