@@ -1,0 +1,3 @@
+-- Laws of the questions.
+pub mod Stores
+pub mod Listed
