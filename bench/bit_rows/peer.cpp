@@ -22,10 +22,11 @@ inline size_t from_sample(const u8 *samples, const u8 *row, size_t i) {
 
 inline size_t select(const u8 *samples, const u8 *row, size_t n, int v, size_t j) {
   if (j == 0 || n == 0) return n;
-  size_t lo = 0, hi = (n + 511) / 512, end = (n + 7) / 8;
-  while (hi - lo > 1) {
-    size_t mid = lo + (hi - lo) / 2, c = number(samples + 4 * mid);
-    if ((v ? c : 512 * mid - c) < j) lo = mid; else hi = mid;
+  size_t lo = 0, end = (n + 7) / 8;
+  for (size_t len = (n + 511) / 512; len > 1;) {
+    size_t half = len / 2, c = number(samples + 4 * (lo + half));
+    lo += half * ((v ? c : 512 * (lo + half) - c) < j);
+    len -= half;
   }
   size_t c = number(samples + 4 * lo), k = 64 * lo;
   if (!v) c = 512 * lo - c;
@@ -34,6 +35,21 @@ inline size_t select(const u8 *samples, const u8 *row, size_t n, int v, size_t j
     if (!v) here = 64 - here;
     if (c + here >= j) break;
     c += here;
+  }
+  if (k + 8 <= end) {
+    u64 x = word(row + k);
+    size_t i = 8 * k;
+    for (size_t w = 32; w; w /= 2) {
+      size_t here = ones(x & (((u64)1 << w) - 1));
+      if (!v) here = w - here;
+      size_t behind = c + here < j;
+      x >>= w * behind;
+      i += w * behind;
+      c += here * behind;
+    }
+    for (; i < n; i++)
+      if ((row[i / 8] >> i % 8 & 1) == v && ++c == j) return i;
+    return n;
   }
   for (; k < end; k++) {
     size_t here = ones(row[k]);

@@ -1,7 +1,7 @@
 -- The layout of an archive as a struct, and what it has to do with the bytes.
 use mathlib.Core.Path.{_≡_}
 use mathlib.Core.List.{List}
-use Prim.Native.Nat.{ℕ}
+use Prim.Native.Nat.{ℕ, _≤_}
 use Rattle.model.specs.Outcome.{answered}
 use Rattle.model.specs.Format.{Sizes, rowCount, samplesOffset, rowsOffset}
 use Rattle.model.specs.Opening.{opening}
@@ -18,6 +18,13 @@ layoutOf s = record {
   terms = s .terms;
   levels = record { entries = s .entries; height = rowCount s; samples = samplesOffset s; rows = rowsOffset s };
 }
+
+-- a layout within the limits
+pub record Fitting (l : Layout) : Type 0 where
+  pub entries : l .levels .entries ≤ 65535
+  pub documents : l .documents ≤ 4096
+  pub terms : l .terms ≤ 4096
+  pub shape : l ≡ layoutOf (sizesIn l)
 
 -- the bytes are accepted, and this is their layout
 pub record Opened (bytes : List ℕ) (l : Layout) : Type 0 where

@@ -1,9 +1,24 @@
 // The archive: its layout, the check on opening, the writer and the reader.
 use wavelet::Levels;
 
+mod check;
+mod offsets;
+mod terms;
+
+pub use check::open;
+pub use offsets::archive_length;
+pub use offsets::layout_of;
+pub use terms::term_start;
+
 // The layout of an opened archive: N, W, and where its levels lie, n and h with them.
 pub struct Layout {
     pub documents: usize,
     pub terms: usize,
     pub levels: Levels,
+}
+
+// What the check on opening answers: the layout of an accepted archive, n, N and W in it, or the number of a refusal.
+pub enum Opening {
+    Accepted(Layout),
+    Refused(u32),
 }

@@ -205,7 +205,7 @@ kind-other zero i n h = absurd (h refl)
 kind-other (suc v) i n h = refl
 
 -- where the ones grow by x over w places, the bits of a kind grow by those of w places with x ones
-kind-add : (v : ℕ) (row : List ℕ) (a e w x : ℕ) → v < 2 → a + w ≡ e → x ≤ w → countBelow 1 row e ≡ countBelow 1 row a + x
+pub kind-add : (v : ℕ) (row : List ℕ) (a e w x : ℕ) → v < 2 → a + w ≡ e → x ≤ w → countBelow 1 row e ≡ countBelow 1 row a + x
     → countBelow v row e ≡ countBelow v row a + ofKind v w x
 kind-add zero row a e w x l p h q = omega (arith, count-both row a, count-both row e)
 kind-add (suc zero) row a e w x l p h q = q

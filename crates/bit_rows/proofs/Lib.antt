@@ -9,4 +9,5 @@ pub mod LittleEndian
 pub mod Samples
 pub mod Stores
 pub mod Search
+pub mod Words
 pub mod Near

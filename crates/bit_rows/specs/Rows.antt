@@ -1,6 +1,6 @@
 -- What the contracts of the code cite beside the definitions of rows: counts below a place, what a row with samples is, what the stores write.
 use mathlib.Core.Path.{_≡_}
-use mathlib.Core.Bool.{true, cond}
+use mathlib.Core.Bool.{Bool, true, false, cond}
 use mathlib.Core.List.{List, _++_}
 use Prim.Native.Nat.{ℕ, zero, suc, _+_, _-_, _*_, _/_, _%_, _^_, _≤_, _<_}
 use lib.Dec.{ltb}
@@ -34,13 +34,28 @@ pub record Sampled (n : ℕ) (samples row : List ℕ) : Type 0 where
   pub sized : Sized n samples row
   pub right : samplesRight n samples row ≡ true
 
--- a search among n bits for the j-th that is v has reached a byte: fewer than j such bits stand before it
-pub record Reached (n v : ℕ) (row : List ℕ) (j byte before : ℕ) : Type 0 where
+-- a search among n bits for the j-th that is v has reached a place: fewer than j such bits stand before it
+pub record Reached (n v : ℕ) (row : List ℕ) (j place before : ℕ) : Type 0 where
   pub kind : v < 2
   pub small : n < 2 ^ 32
   pub bytes : rowBytes n ≤ length row
-  pub within : byte ≤ rowBytes n
-  pub counted : countBelow v row (8 * byte) ≡ before
+  pub within : place ≤ 8 * rowBytes n
+  pub counted : countBelow v row place ≡ before
+  pub fewer : before < j
+
+-- x where a test holds, else 0
+abbrev pub timesOf : Bool → ℕ → ℕ
+timesOf true x = x
+timesOf false x = 0
+
+-- the same inside the word at byte k, which has the given bits from the place on, at least so many
+pub record InWord (v : ℕ) (row : List ℕ) (k j many bits place before : ℕ) : Type 0 where
+  pub kind : v < 2
+  pub small : k < 2 ^ 32
+  pub after : 8 * k ≤ place
+  pub room : place + many ≤ 8 * k + 64
+  pub left : bits ≡ wordAt row k / 2 ^ (place - 8 * k)
+  pub counted : countBelow v row place ≡ before
   pub fewer : before < j
 
 -- where n bits are searched: a place among them, or nothing

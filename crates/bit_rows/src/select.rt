@@ -6,14 +6,21 @@ use crate::count::word_ones;
 use crate::numbers::number;
 use crate::numbers::word;
 ghost use mathlib.Core.Path.{_≡_};
-ghost use Prim.Native.Nat.{_*_, _≤_, _<_};
+ghost use Prim.Native.Nat.{_+_, _*_, _≤_, _<_};
 ghost use Rattle.bit_rows.specs.Sequences.{select};
-ghost use Rattle.bit_rows.specs.Bits.{bitsOf, sampleCount};
-ghost use Rattle.bit_rows.specs.Rows.{countBelow, ofKind, foundAt, Sampled, Reached};
+ghost use Rattle.bit_rows.specs.Bits.{bitsOf, rowBytes, sampleCount};
+ghost use Rattle.bit_rows.specs.Rows.{countBelow, ofKind, foundAt, Sampled, Reached, InWord, timesOf};
 
 // A byte of a row, and how many of the bits before it are of the wanted kind.
 pub struct Scan {
     byte: usize,
+    before: usize,
+}
+
+// What is left of a word from a place on, and how many of the bits before that place are of the wanted kind.
+pub struct Left {
+    bits: u64,
+    place: usize,
     before: usize,
 }
 
@@ -25,6 +32,13 @@ fn of_kind(v: u8, i: usize, n: usize) -> usize
     if v == 0 { i - n } else { n }
 }
 
+// x where the test holds, else 0.
+fn times(x: usize, test: bool) -> usize
+    ensures { λ r. ⌜ (r ≡ timesOf test x) × (r ≤ x) ⌝ }
+{
+    x * (test as usize)
+}
+
 // Of the bits below sample t, how many are v.
 fn sampled(samples: &[u8], row: &[u8], n: usize, v: u8, t: usize) -> usize
     requires { ⌜ Sampled n (now samples) (now row) ⌝ }
@@ -34,29 +48,27 @@ fn sampled(samples: &[u8], row: &[u8], n: usize, v: u8, t: usize) -> usize
     of_kind(v, 512 * t, number(samples, 4 * t))
 }
 
-// The last block before which fewer than j bits are v.
+// The last block before which fewer than j bits are v, by halving without a branch.
 fn block_of(samples: &[u8], row: &[u8], n: usize, v: u8, j: usize) -> usize
     requires { ⌜ Sampled n (now samples) (now row) ⌝ }
     requires { ⌜ (v < 2) × (0 < n) × (0 < j) ⌝ }
     ensures { λ r. ⌜ (r < sampleCount n) × (countBelow v (now (row .entry)) (512 * r) < j) ⌝ }
 {
     let mut lo: usize = 0;
-    let mut hi = (n + 511) / 512;
-    while 1 < hi - lo {
-        let mid = lo + (hi - lo) / 2;
-        if sampled(samples, row, n, v, mid) < j {
-            lo = mid;
-        } else {
-            hi = mid;
-        }
+    let mut len = (n + 511) / 512;
+    while 1 < len {
+        let half = len / 2;
+        let less = sampled(samples, row, n, v, lo + half) < j;
+        lo += times(half, less);
+        len -= half;
     }
     lo
 }
 
 // Skips words that end before the j-th bit that is v.
 fn skip_words(row: &[u8], n: usize, v: u8, from: Scan, j: usize) -> Scan
-    requires { ⌜ Reached n v (now row) j (from .byte) (from .before) ⌝ }
-    ensures { λ r. ⌜ Reached n v (now (row .entry)) j (r .byte) (r .before) ⌝ }
+    requires { ⌜ Reached n v (now row) j (8 * from .byte) (from .before) ⌝ }
+    ensures { λ r. ⌜ Reached n v (now (row .entry)) j (8 * r .byte) (r .before) ⌝ }
 {
     let end = (n + 7) / 8;
     let mut k = from.byte;
@@ -80,8 +92,8 @@ fn skip_words(row: &[u8], n: usize, v: u8, from: Scan, j: usize) -> Scan
 
 // Skips bytes that end before the j-th bit that is v.
 fn skip_bytes(row: &[u8], n: usize, v: u8, from: Scan, j: usize) -> Scan
-    requires { ⌜ Reached n v (now row) j (from .byte) (from .before) ⌝ }
-    ensures { λ r. ⌜ Reached n v (now (row .entry)) j (r .byte) (r .before) ⌝ }
+    requires { ⌜ Reached n v (now row) j (8 * from .byte) (from .before) ⌝ }
+    ensures { λ r. ⌜ Reached n v (now (row .entry)) j (8 * r .byte) (r .before) ⌝ }
 {
     let end = (n + 7) / 8;
     let mut k = from.byte;
@@ -103,14 +115,31 @@ fn skip_bytes(row: &[u8], n: usize, v: u8, from: Scan, j: usize) -> Scan
     }
 }
 
-// The j-th bit that is v among the first n, from a byte on.
-fn find_bit(row: &[u8], n: usize, v: u8, from: Scan, j: usize) -> Found
-    requires { ⌜ Reached n v (now row) j (from .byte) (from .before) ⌝ }
+// Drops the w lowest of the bits that are left where the wanted bit lies behind them; no branch tells the two apart.
+fn narrow(row: &[u8], k: usize, v: u8, from: Left, w: usize, j: usize) -> Left
+    requires { ⌜ (w < 64) × InWord v (now row) k j (2 * w) (from .bits) (from .place) (from .before) ⌝ }
+    ensures { λ r. ⌜ InWord v (now (row .entry)) k j w (r .bits) (r .place) (r .before) ⌝ }
+{
+    let bits = from.bits;
+    let place = from.place;
+    let before = from.before;
+    let here = of_kind(v, w, word_ones(bits % (1 << w)));
+    let behind = before + here < j;
+    let step = times(w, behind);
+    Left {
+        bits: bits >> step,
+        place: place + step,
+        before: before + times(here, behind),
+    }
+}
+
+// The j-th bit that is v among the first n, from a place on.
+fn find_bit(row: &[u8], n: usize, v: u8, place: usize, before: usize, j: usize) -> Found
+    requires { ⌜ Reached n v (now row) j place before ⌝ }
     ensures { λ r. ⌜ r ≡ foundAt n (select v (bitsOf n (now (row .entry))) j) ⌝ }
 {
-    let byte = from.byte;
-    let mut i = 8 * byte;
-    let mut count = from.before;
+    let mut i = place;
+    let mut count = before;
     while i < n {
         if bit(row, i) == v {
             count += 1;
@@ -121,6 +150,26 @@ fn find_bit(row: &[u8], n: usize, v: u8, from: Scan, j: usize) -> Found
         i += 1;
     }
     Found::Nothing
+}
+
+// The same from the word at byte k on, which is halved down to the bit.
+fn find_in_word(row: &[u8], n: usize, v: u8, k: usize, before: usize, j: usize) -> Found
+    requires { ⌜ Reached n v (now row) j (8 * k) before ⌝ }
+    requires { ⌜ k + 8 ≤ rowBytes n ⌝ }
+    ensures { λ r. ⌜ r ≡ foundAt n (select v (bitsOf n (now (row .entry))) j) ⌝ }
+{
+    let whole = Left {
+        bits: word(row, k),
+        place: 8 * k,
+        before,
+    };
+    let half = narrow(row, k, v, whole, 32, j);
+    let quarter = narrow(row, k, v, half, 16, j);
+    let byte = narrow(row, k, v, quarter, 8, j);
+    let four = narrow(row, k, v, byte, 4, j);
+    let two = narrow(row, k, v, four, 2, j);
+    let one = narrow(row, k, v, two, 1, j);
+    find_bit(row, n, v, one.place, one.before, j)
 }
 
 fn select_kind(samples: &[u8], row: &[u8], n: usize, v: u8, j: usize) -> Found
@@ -136,12 +185,23 @@ fn select_kind(samples: &[u8], row: &[u8], n: usize, v: u8, j: usize) -> Found
     }
     let t = block_of(samples, row, n, v, j);
     let before = sampled(samples, row, n, v, t);
-    let block = Scan {
-        byte: 64 * t,
-        before,
-    };
-    let near = skip_words(row, n, v, block, j);
-    find_bit(row, n, v, skip_bytes(row, n, v, near, j), j)
+    let near = skip_words(
+        row,
+        n,
+        v,
+        Scan {
+            byte: 64 * t,
+            before,
+        },
+        j,
+    );
+    let k = near.byte;
+    if k + 8 <= (n + 7) / 8 {
+        return find_in_word(row, n, v, k, near.before, j);
+    }
+    let last = skip_bytes(row, n, v, near, j);
+    let end = last.byte;
+    find_bit(row, n, v, 8 * end, last.before, j)
 }
 
 // The place of the j-th one, counted from 1.

@@ -1,4 +1,4 @@
--- The height of a tree is the smallest number h with 2 ^ h at least N.
+-- The height of a tree: 2 ^ height N is at least N, and no smaller power is.
 use Prim.Native.Nat.{ℕ, zero, suc, _+_, _^_, _≤_, _<_, zero-le}
 use mathlib.Core.Path.{_≡_}
 use mathlib.Core.Bool.{true, false}
@@ -11,6 +11,21 @@ use lib.Dec.{leb}
 use borrow.Author.Tests.{leb-true, leb-false}
 use Rattle.bit_rows.proofs.Tests.{look}
 use Rattle.model.specs.Rows.{heightFrom, height}
+
+lt-two-pow : (n : ℕ) → n < 2 ^ n
+lt-two-pow zero = omega arith
+lt-two-pow (suc n) = rw two-pow-succ (omega (arith, lt-two-pow n))
+
+le-pow-heightFrom : (tries h N : ℕ) → N ≤ 2 ^ (h + tries) → N ≤ 2 ^ heightFrom tries h N
+le-pow-heightFrom zero h N l = rw add-zero at l
+le-pow-heightFrom (suc tries) h N l = go (look (leb N (2 ^ h))) (le-pow-heightFrom tries (suc h) N (rw suc-add (rw add-suc at l)))
+  where
+    go : (leb N (2 ^ h) ≡ true) ⊎ (leb N (2 ^ h) ≡ false) → N ≤ 2 ^ heightFrom tries (suc h) N → N ≤ 2 ^ heightFrom (suc tries) h N
+    go (inl e) ih = rw e (leb-true N (2 ^ h) e)
+    go (inr e) ih = rw e ih
+
+pub le-pow-height : (N : ℕ) → N ≤ 2 ^ height N
+le-pow-height N = le-pow-heightFrom N 0 N (rw zero-add (le-of-lt (lt-two-pow N)))
 
 heightFrom-le : (tries h N g : ℕ) → h ≤ g → N ≤ 2 ^ g → heightFrom tries h N ≤ g
 heightFrom-le zero h N g l m = l
@@ -27,20 +42,12 @@ heightFrom-le (suc tries) h N g l m = go (look (leb N (2 ^ h))) (heightFrom-le t
 pub height-le : (N g : ℕ) → N ≤ 2 ^ g → height N ≤ g
 height-le N g l = heightFrom-le N 0 N g zero-le l
 
+pub lt-height : (N h : ℕ) → 2 ^ h < N → h < height N
+lt-height N h l = go (decLe (suc h) (height N))
+  where
+    go : Dec (h < height N) → h < height N
+    go (yes k) = k
+    go (no k) = let p : 2 ^ height N ≤ 2 ^ h = pow-mono (omega arith) in omega (arith, le-pow-height N)
+
 pub height-le-12 : (N : ℕ) → N ≤ 4096 → height N ≤ 12
 height-le-12 N l = height-le N 12 l
-
-lt-two-pow : (n : ℕ) → n < 2 ^ n
-lt-two-pow zero = omega arith
-lt-two-pow (suc n) = rw two-pow-succ (omega (arith, lt-two-pow n))
-
-le-pow-heightFrom : (tries h N : ℕ) → N ≤ 2 ^ (h + tries) → N ≤ 2 ^ heightFrom tries h N
-le-pow-heightFrom zero h N l = rw add-zero at l
-le-pow-heightFrom (suc tries) h N l = go (look (leb N (2 ^ h))) (le-pow-heightFrom tries (suc h) N (rw suc-add (rw add-suc at l)))
-  where
-    go : (leb N (2 ^ h) ≡ true) ⊎ (leb N (2 ^ h) ≡ false) → N ≤ 2 ^ heightFrom tries (suc h) N → N ≤ 2 ^ heightFrom (suc tries) h N
-    go (inl e) ih = rw e (leb-true N (2 ^ h) e)
-    go (inr e) ih = rw e ih
-
-pub le-pow-height : (N : ℕ) → N ≤ 2 ^ height N
-le-pow-height N = le-pow-heightFrom N 0 N (rw zero-add (le-of-lt (lt-two-pow N)))

@@ -4,3 +4,4 @@ pub mod Spans
 pub mod Descents
 pub mod Ranges
 pub mod NextDocument
+pub mod Places

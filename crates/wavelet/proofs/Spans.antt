@@ -18,6 +18,10 @@ use Rattle.wavelet.specs.Spans.{Ordered, halvesOf, spanOf}
 
 -- ---- the halves of any node in order
 
+-- by the ranks of the node's start and of a place p in it
+pub left-is : (bits : List ℕ) (s p a r : ℕ) → s ≤ p → a ≡ rank 1 bits s → r ≡ rank 1 bits p → p - (r - a) ≡ left bits s p
+left-is bits s p a r l pa pr = omega (arith, ones-step bits s p l)
+
 module _ (bits : List ℕ) (n : ℕ) (s : Span) (o : Ordered n s) where
   lo-end : s .lo ≤ s .end
   lo-end = le-trans (o .range) (o .to)
@@ -44,10 +48,6 @@ module _ (bits : List ℕ) (n : ℕ) (s : Span) (o : Ordered n s) where
     inside = o .inside;
   }
 
-  -- by the ranks of the node's start and of a place p in it
-  left-is : (p a r : ℕ) → s .start ≤ p → a ≡ rank 1 bits (s .start) → r ≡ rank 1 bits p → p - (r - a) ≡ left bits (s .start) p
-  left-is p a r l pa pr = omega (arith, ones-step bits (s .start) p l)
-
   -- the halves by four ranks
   pub halves-are : (a l h e : ℕ) → a ≡ rank 1 bits (s .start) → l ≡ rank 1 bits (s .lo) → h ≡ rank 1 bits (s .hi) → e ≡ rank 1 bits (s .end)
       → _≡_ {A = Halves} (record {
@@ -55,9 +55,9 @@ module _ (bits : List ℕ) (n : ℕ) (s : Span) (o : Ordered n s) where
         high = record { start = s .end - (e - a); lo = s .end - (e - a) + (l - a); hi = s .end - (e - a) + (h - a); end = s .end };
       }) (halvesOf bits s)
   halves-are a l h e pa pl ph pe =
-      let lo = left-is (s .lo) a l (o .from) pa pl in
-      let hi = left-is (s .hi) a h start-hi pa ph in
-      let end = left-is (s .end) a e start-end pa pe in
+      let lo = left-is bits (s .start) (s .lo) a l (o .from) pa pl in
+      let hi = left-is bits (s .start) (s .hi) a h start-hi pa ph in
+      let end = left-is bits (s .start) (s .end) a e start-end pa pe in
       λ i. record {
         low = record { start = s .start; lo = lo i; hi = hi i; end = end i };
         high = record { start = end i; lo = end i + (pl i - pa i); hi = end i + (ph i - pa i); end = s .end };

@@ -2,3 +2,4 @@
 pub mod Levels
 pub mod Spans
 pub mod Ranges
+pub mod Places

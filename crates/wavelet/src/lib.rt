@@ -1,9 +1,11 @@
 // Levels of rows as a wavelet tree. Counts and places of bits come from bit_rows' contracts alone.
+mod ascent;
 mod descent;
 mod level;
 mod node;
 mod range;
 
+pub use ascent::select;
 pub use descent::access;
 pub use descent::rank;
 pub use node::half;

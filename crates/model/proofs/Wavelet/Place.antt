@@ -1,6 +1,6 @@
 -- The place that `select` finds: what stands there, and how many like it stand before it.
 use Prim.Native.Nat.{ℕ, zero, suc, _+_, _-_, _≤_, _<_, zero-le, suc-le-suc}
-use mathlib.Core.Path.{_≡_, refl, sym, ap}
+use mathlib.Core.Path.{_≡_, refl, sym, ap, subst}
 use mathlib.Core.List.{List, [], _∷_}
 use mathlib.Core.Bool.{Bool, true, false, cond, _&&_}
 use native.Mathlib.Nat.{not-suc-le-zero, le-of-suc-le-suc}
@@ -15,14 +15,13 @@ later : (t : Bool) (j a rest : ℕ) → (t ≡ true → j ≡ 1 → ⊥) → con
 later true j a rest n = rw (ne-eqb j 1 (n refl))
 later false j a rest n = refl
 
--- after as many as stand before s, the next ones stand at s or later
-pub le-select : (v : ℕ) (xs : List ℕ) (s k : ℕ) → s ≤ length xs → s ≤ select v xs (rank v xs s + k + 1)
-le-select v xs zero k l = zero-le
-le-select v [] (suc s) k l = absurd (not-suc-le-zero l)
-le-select v (x ∷ xs) (suc s) k l =
-    let j : ℕ = rank v (x ∷ xs) (suc s) + k + 1 in
-    let e : j - bit (eqb v x) ≡ rank v xs s + k + 1 = omega arith in
-    rw (later (eqb v x) j 0 (suc (select v xs (j - bit (eqb v x)))) (λ t o. omega (arith, ap bit t)), e) (suc-le-suc (le-select v xs s k (le-of-suc-le-suc l)))
+-- not before s, where fewer than j stand before s
+pub select-ge : (v : ℕ) (xs : List ℕ) (s j : ℕ) → s ≤ length xs → rank v xs s < j → s ≤ select v xs j
+select-ge v xs zero j l m = zero-le
+select-ge v [] (suc s) j l m = absurd (not-suc-le-zero l)
+select-ge v (x ∷ xs) (suc s) j l m =
+    subst (λ (n : ℕ). suc s ≤ n) (sym (later (eqb v x) j 0 (suc (select v xs (j - bit (eqb v x)))) (λ t o. omega (arith, ap bit t))))
+    (suc-le-suc (select-ge v xs s (j - bit (eqb v x)) (le-of-suc-le-suc l) (omega arith)))
 
 -- the j-th element v stands at p
 pub record Placed (v : ℕ) (xs : List ℕ) (j p : ℕ) : Type 0 where

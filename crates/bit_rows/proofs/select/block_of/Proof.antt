@@ -1,47 +1,53 @@
-use Prim.Native.Nat.{_*_, _-_, _≤_, _<_}
+use mathlib.Core.Path.{refl}
+use Prim.Native.Nat.{_+_, _*_, _/_, _≤_, _<_}
 use native.Mathlib.Omega.{arith}
+use lib.Dec.{ltb}
 use borrow.Author.Needs.{needs}
 use Rattle.bit_rows.specs.Bits.{sampleCount}
 use Rattle.bit_rows.specs.Rows.{countBelow}
 use Rattle.bit_rows.proofs.Bits.{count-zero}
+use Rattle.bit_rows.proofs.Words.{halve-step}
 use Rattle.bit_rows.proofs.select.block_of.Statement.{statement}
 use Rattle.bit_rows.proofs.select.block_of.Tie as tie
 
 abbrev Inv-loop : tie.InvT-loop
-Inv-loop samples row n v j lo₀ hi₀ lo hi = (lo < hi) × (hi ≤ sampleCount n) × (countBelow v row (512 * lo) < j)
+Inv-loop samples row n v j lo₀ len₀ lo len = (0 < len) × (lo + len ≤ sampleCount n) × (countBelow v row (512 * lo) < j)
 
 abbrev μ-loop : tie.MeasureT-loop
-μ-loop samples row n v j lo₀ hi₀ lo hi = hi - lo
+μ-loop samples row n v j lo₀ len₀ lo len = len
 
-add-hi : tie.Need-add-hi Inv-loop μ-loop
-add-hi c = search needs
+add-len : tie.Need-add-len Inv-loop μ-loop
+add-len c = search needs
 
 loop-holds : tie.Need-loop-holds Inv-loop μ-loop
 loop-holds c = omega (arith, count-zero (c .before .before .args .v) (c .before .before .args .row .now))
 
-sub-loop : tie.Need-sub-loop Inv-loop μ-loop
-sub-loop c = search needs
-
-sub-mid : tie.Need-sub-mid Inv-loop μ-loop
-sub-mid c = search needs
-
-add-mid : tie.Need-add-mid Inv-loop μ-loop
-add-mid c = search needs
+add-sampled : tie.Need-add-sampled Inv-loop μ-loop
+add-sampled c = search needs
 
 sampled-requires : tie.Need-sampled-requires Inv-loop μ-loop
 sampled-requires c κs = search needs
+
+times-requires : tie.Need-times-requires Inv-loop μ-loop
+times-requires c κs = search needs
+
+add-lo : tie.Need-add-lo Inv-loop μ-loop
+add-lo c = search needs
+
+sub-len : tie.Need-sub-len Inv-loop μ-loop
+sub-len c = search needs
 
 loop-less : tie.Need-loop-less Inv-loop μ-loop
 loop-less c = search needs
 
 loop-again : tie.Need-loop-again Inv-loop μ-loop
-loop-again c = search needs
-
-loop-less-2 : tie.Need-loop-less-2 Inv-loop μ-loop
-loop-less-2 c = search needs
-
-loop-again-2 : tie.Need-loop-again-2 Inv-loop μ-loop
-loop-again-2 c = search needs
+loop-again c =
+    let s = c .before .before .before .before .before .before in
+    let l = c .before .before .before .loop in
+    let j = s .args .j in
+    let x = c .before .sampled .result in
+    let step = halve-step (s .args .v) (s .args .row .now) j (l .lo) (l .len / 2) x (c .before .sampled .ensures .0) (l .inv .2) (ltb x j) refl in
+    (omega arith, omega arith, rw (c .times .ensures .0) step)
 
 returns : tie.Need-returns Inv-loop μ-loop
 returns c = search needs
@@ -52,14 +58,13 @@ block-of-spec =
     (tie.spec
     Inv-loop
     μ-loop
-    add-hi
+    add-len
     loop-holds
-    sub-loop
-    sub-mid
-    add-mid
+    add-sampled
     sampled-requires
+    times-requires
+    add-lo
+    sub-len
     loop-less
     loop-again
-    loop-less-2
-    loop-again-2
     returns)

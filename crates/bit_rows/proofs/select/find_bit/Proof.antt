@@ -13,13 +13,10 @@ use Rattle.bit_rows.proofs.select.find_bit.Statement.{statement}
 use Rattle.bit_rows.proofs.select.find_bit.Tie as tie
 
 abbrev Inv-loop : tie.InvT-loop
-Inv-loop row n v j byte i₀ count₀ i count = (countBelow v row i ≡ count) × (count < j)
+Inv-loop row n v place before j i₀ count₀ i count = (countBelow v row i ≡ count) × (count < j)
 
 abbrev μ-loop : tie.MeasureT-loop
-μ-loop row n v j byte i₀ count₀ i count = n - i
-
-mul-i : tie.Need-mul-i Inv-loop μ-loop
-mul-i c = search needs
+μ-loop row n v place before j i₀ count₀ i count = n - i
 
 loop-holds : tie.Need-loop-holds Inv-loop μ-loop
 loop-holds c = search needs
@@ -68,7 +65,6 @@ find-bit-spec =
     (tie.spec
     Inv-loop
     μ-loop
-    mul-i
     loop-holds
     bit-requires
     add-count

@@ -31,8 +31,8 @@ block-of-requires c κs = search needs
 sampled-requires : tie.Need-sampled-requires
 sampled-requires c κs = search needs
 
-mul-t11 : tie.Need-mul-t11
-mul-t11 c = search needs
+mul-if3 : tie.Need-mul-if3
+mul-if3 c = search needs
 
 skip-words-requires : tie.Need-skip-words-requires
 skip-words-requires c κs =
@@ -41,14 +41,29 @@ skip-words-requires c κs =
     let p : 8 * (64 * t) ≡ 512 * t = omega arith in
     omega (arith, ap (countBelow (s .args .v) (s .args .row .now)) p)
 
+add-if3 : tie.Need-add-if3
+add-if3 c = search needs
+
+add-if3-2 : tie.Need-add-if3-2
+add-if3-2 c = search needs
+
+find-in-word-requires : tie.Need-find-in-word-requires
+find-in-word-requires c κs = search needs
+
+returns-3 : tie.Need-returns-3
+returns-3 c = search needs
+
 skip-bytes-requires : tie.Need-skip-bytes-requires
 skip-bytes-requires c κs = search needs
+
+mul-find-bit : tie.Need-mul-find-bit
+mul-find-bit c = search needs
 
 find-bit-requires : tie.Need-find-bit-requires
 find-bit-requires c κs = search needs
 
-returns-3 : tie.Need-returns-3
-returns-3 c = search needs
+returns-4 : tie.Need-returns-4
+returns-4 c = search needs
 
 pub select-kind-spec : {M : Type 1} → statement M
 select-kind-spec =
@@ -58,8 +73,13 @@ select-kind-spec =
     returns-2
     block-of-requires
     sampled-requires
-    mul-t11
+    mul-if3
     skip-words-requires
+    add-if3
+    add-if3-2
+    find-in-word-requires
+    returns-3
     skip-bytes-requires
+    mul-find-bit
     find-bit-requires
-    returns-3)
+    returns-4)

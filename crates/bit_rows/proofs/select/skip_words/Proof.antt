@@ -9,7 +9,7 @@ use Rattle.bit_rows.proofs.select.skip_words.Statement.{statement}
 use Rattle.bit_rows.proofs.select.skip_words.Tie as tie
 
 abbrev Inv-loop : tie.InvT-loop
-Inv-loop row n v j end k₀ count₀ k count = Reached n v row j k count
+Inv-loop row n v j end k₀ count₀ k count = Reached n v row j (8 * k) count
 
 abbrev μ-loop : tie.MeasureT-loop
 μ-loop row n v j end k₀ count₀ k count = end - k

@@ -1,0 +1,17 @@
+-- The way up of select: from a place in a half to its place in the node.
+use Prim.Native.Nat.{ℕ, _+_, _-_}
+use mathlib.Core.List.{List}
+use mathlib.Core.Bool.{cond}
+use lib.Dec.{eqb}
+use Rattle.bit_rows.specs.Sequences.{rank, select}
+use Rattle.bit_rows.specs.declared.Found.{Found}
+use Rattle.bit_rows.specs.declared.Found.the-variants.{At, Nothing}
+
+-- the place that a search among n bits answers; n where it found nothing
+abbrev pub placeOr : Found → ℕ → ℕ
+placeOr (At p) n = p
+placeOr Nothing n = n
+
+-- how far into the node that starts at s, in a level with the given bits, what stands k into a half stands
+abbrev pub upFromHalf : List ℕ → ℕ → ℕ → ℕ → ℕ
+upFromHalf bits s bit k = cond (eqb bit 1) (select 1 bits (rank 1 bits s + k + 1) - s) (select 0 bits ((s - rank 1 bits s) + k + 1) - s)

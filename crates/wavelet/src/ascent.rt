@@ -1,0 +1,84 @@
+// Select: down by the bits of a document to its leaf, and up by the places of bits.
+use crate::Levels;
+use crate::descent::rank;
+use crate::level::ones;
+use crate::level::select_one;
+use crate::level::select_zero;
+use bit_rows::Found;
+ghost use mathlib.Core.Path.{_≡_};
+ghost use mathlib.Core.Bool.{cond};
+ghost use Prim.Native.Nat.{_-_, _^_, _≤_, _<_};
+ghost use lib.Dec.{eqb};
+ghost use Rattle.bit_rows.specs.Sequences as sequences;
+ghost use Rattle.bit_rows.specs.Rows.{foundAt};
+ghost use Rattle.model.proofs.Wavelet.Walk.{selectFrom};
+ghost use Rattle.wavelet.specs.Levels.{Stored, entriesIn, levelOf};
+ghost use Rattle.wavelet.specs.Places.{placeOr, upFromHalf};
+
+// The place that a search among n bits answers; n where it found nothing.
+fn place_or(f: Found, n: usize) -> usize
+    ensures { λ r. ⌜ r ≡ placeOr f n ⌝ }
+{
+    match f {
+        Found::At(p) => p,
+        Found::Nothing => n,
+    }
+}
+
+// The first number where the bit is 1, else the other.
+fn pick(bit: usize, x: usize, y: usize) -> usize
+    ensures { λ r. ⌜ r ≡ cond (eqb bit 1) x y ⌝ }
+{
+    if bit == 1 { x } else { y }
+}
+
+// How far into the node of level j that starts at `start`, with `before` ones before it, what is k into a half stands.
+fn up(bytes: &[u8], t: Levels, j: usize, start: usize, before: usize, bit: usize, k: usize) -> usize
+    requires { ⌜ Stored (now bytes) t ⌝ }
+    requires { ⌜ (j < t .height) × (start ≤ t .entries) × (k ≤ t .entries) × (before ≡ sequences.rank 1 (levelOf (now bytes) t j) start) × (before ≤ start) ⌝ }
+    ensures { λ r. ⌜ (r ≡ upFromHalf (levelOf (now (bytes .entry)) t j) start bit k) × (r ≤ t .entries) ⌝ }
+{
+    if bit == 1 {
+        place_or(select_one(bytes, t, j, before + k + 1), t.entries) - start
+    } else {
+        place_or(select_zero(bytes, t, j, start - before + k + 1), t.entries) - start
+    }
+}
+
+// How far into its node, from start to end in level j, the entry d stands that has k like it before it. Rows that remain fall at each call.
+fn offset_of(
+    bytes: &[u8],
+    t: Levels,
+    d: usize,
+    j: usize,
+    start: usize,
+    end: usize,
+    k: usize,
+) -> usize
+    requires { ⌜ Stored (now bytes) t ⌝ }
+    requires { ⌜ (j ≤ t .height) × (start ≤ end) × (end ≤ t .entries) × (k ≤ t .entries) ⌝ }
+    ensures { λ r. ⌜ (r ≡ selectFrom (levelOf (now (bytes .entry)) t) d (t .height - j) j start end k) × (r ≤ t .entries) ⌝ }
+{
+    if j == t.height {
+        return k;
+    }
+    let before = ones(bytes, t, j, start);
+    let middle = end - (ones(bytes, t, j, end) - before);
+    let bit = (d >> (t.height - 1 - j)) % 2;
+    let from = pick(bit, middle, start);
+    let to = pick(bit, end, middle);
+    let below = offset_of(bytes, t, d, j + 1, from, to, k);
+    up(bytes, t, j, start, before, bit, below)
+}
+
+// The place of the i-th entry d, i from 1.
+pub fn select(bytes: &[u8], t: Levels, d: usize, i: usize) -> Found
+    requires { ⌜ Stored (now bytes) t ⌝ }
+    requires { ⌜ (d < 2 ^ t .height) × (0 < i) ⌝ }
+    ensures { λ r. ⌜ r ≡ foundAt (t .entries) (sequences.select d (entriesIn (now (bytes .entry)) t) i) ⌝ }
+{
+    if rank(bytes, t, d, t.entries) < i {
+        return Found::Nothing;
+    }
+    Found::At(offset_of(bytes, t, d, 0, 0, t.entries, i - 1))
+}
