@@ -3,17 +3,21 @@ use Prim.Native.Nat.{ℕ, zero, suc, _+_, _-_, _*_, _^_, _≤_, _<_}
 use native.Mathlib.Omega.{arith}
 use native.Mathlib.Nat.{sub-zero, zero-add, two-pow-succ, pow-suc, mul-one, zero-mul}
 use mathlib.Core.Path.{_≡_, sym, ap, _∙_}
-use mathlib.Core.List.{List, [], _∷_, _++_, map}
-use lib.ListN.{length, length-append}
-use borrow.Author.Tests.{lt-ltb}
+use mathlib.Core.List.{List, [], _∷_, _++_, map, append-nil}
+use lib.ListN.{length, length-append, length-map}
+use mathlib.Core.Bool.{false}
+use lib.Dec.{ltb}
+use native.Mathlib.Decide.{decLe}
+use borrow.Author.Tests.{lt-ltb, le-ltb}
 use native.Mathlib.Numerals.{add-one}
-use Rattle.bit_rows.specs.Sequences.{occurrences, upFrom}
-use Rattle.bit_rows.proofs.Tally.{upFrom-append, map-append}
-use Rattle.model.specs.Lists.{keep, part}
+use Rattle.bit_rows.specs.Sequences.{occurrences, upFrom, below}
+use Rattle.bit_rows.proofs.Tally.{tally-le-length, upFrom-append, length-upFrom, map-append}
+use Rattle.model.specs.Lists.{keep, part, Within}
 use Rattle.model.specs.Rows.{row}
 use Rattle.model.specs.TopK.{node, countIn}
 use Rattle.model.specs.Queries.{Pair, pairOf, present, listing}
-use Rattle.model.proofs.Lists.{keep-append}
+use Rattle.model.proofs.Lists.{keep-append, keep-map, length-keep}
+use Rattle.wavelet.proofs.NextDocument.{keep-none, occurs-lt}
 use Rattle.model.proofs.Wavelet.Rank.{tally-leaf}
 use Rattle.wavelet.specs.declared.Levels.{Levels}
 use Rattle.wavelet.specs.declared.Span.{Span}
@@ -97,3 +101,33 @@ pairs-root bytes t a b ab bl =
     ∙ ap (pairsFrom (levelOf bytes t) h 0 0) (sym (span-root h xs a b (within-entriesIn bytes t) (omega arith) (omega arith)))
     ∙ pairs-node h xs a b ab h 0 0 (zero-add h) (omega arith)
     ∙ ap (λ (s : ℕ). keep present (map (pairOf (part a b xs)) (upFrom s (2 ^ h)))) (zero-mul (2 ^ h))
+
+-- ---- the listing of documents below N
+
+-- numbers that do not occur are not listed
+pub listing-within : (N M : ℕ) (ys : List ℕ) → Within N ys → N ≤ M → listing M ys ≡ listing N ys
+listing-within N M ys w l =
+    let e : N + (M - N) ≡ M = omega arith in
+    ap (λ (m : ℕ). listing m ys) (sym e)
+    ∙ ap (λ (ds : List ℕ). keep present (map (pairOf ys) ds)) (upFrom-append 0 N (M - N) ∙ ap (λ (s : ℕ). below N ++ upFrom s (M - N)) (zero-add N))
+    ∙ ap (keep present) (map-append (pairOf ys) (below N) (upFrom N (M - N))) ∙ keep-append present (map (pairOf ys) (below N)) (map (pairOf ys) (upFrom N (M - N)))
+    ∙ ap (λ (ps : List Pair). listing N ys ++ ps) none ∙ append-nil (listing N ys)
+  where
+    absent : (d : ℕ) → N ≤ d → Dec (occurrences d ys ≤ 0) → ltb 0 (occurrences d ys) ≡ false
+    absent d a (yes z) = le-ltb 0 (occurrences d ys) z
+    absent d a (no z) = absurd (omega (arith, occurs-lt N d ys w (omega arith)))
+
+    none : keep present (map (pairOf ys) (upFrom N (M - N))) ≡ []
+    none =
+        keep-map present (pairOf ys) (upFrom N (M - N))
+        ∙ ap (map (pairOf ys)) (keep-none (λ d. ltb 0 (occurrences d ys)) N (M - N) (λ d a b. absent d a (decLe (occurrences d ys) 0)))
+
+pub listing-le : (N : ℕ) (ys : List ℕ) → length (listing N ys) ≤ N
+listing-le N ys =
+    omega (
+      arith,
+      length-keep present (map (pairOf ys) (below N)),
+      tally-le-length present (map (pairOf ys) (below N)),
+      length-map (below N) (pairOf ys),
+      length-upFrom 0 N,
+    )

@@ -51,7 +51,7 @@ module _ (lib : Library) (ts : List ℕ) where
   found-one : (v : ℕ) → matches lib ts v ≡ true → foundBelow v ++ (summed v ∷ []) ≡ foundBelow (v + 1)
   found-one v e = sym (found-add v 1 ∙ rw e)
 
-  found-le : (m : ℕ) → length (foundBelow m) ≤ m
+  pub found-le : (m : ℕ) → length (foundBelow m) ≤ m
   found-le m =
       omega (
         arith,

@@ -1,19 +1,17 @@
 use borrow.Author.Needs.{needs}
-use Prim.Native.Nat.{ℕ}
+use Prim.Native.Nat.{ℕ, _-_}
 use native.Mathlib.Omega.{arith}
 use mathlib.Core.Path.{_≡_}
 use mathlib.Core.List.{List}
-use lib.ListN.{length}
+use lib.ListN.{length, take}
 use Rattle.model.specs.Format.{Library}
 use Rattle.wavelet.specs.declared.Next.the-variants.{Document}
 use Rattle.archive.proofs.Opened.{fitting, documents-are, documents-fit}
 use Rattle.queries.specs.Conjunction.{leapOver}
-use Prim.Native.Nat.{_-_}
-use lib.ListN.{take}
 use Rattle.model.specs.Opening.{contents}
 use Rattle.queries.proofs.Walks.{Walking, walking-start, walking-size, walking-few, walking-agreed, walking-on, walking-end, turn}
-use Rattle.queries.proofs.conjunction.conjunction_in.Statement.{statement}
-use Rattle.queries.proofs.conjunction.conjunction_in.Tie as tie
+use Rattle.queries.proofs.conjunctions.conjunction_in.Statement.{statement}
+use Rattle.queries.proofs.conjunctions.conjunction_in.Tie as tie
 
 abbrev Inv-loop : tie.InvT-loop
 Inv-loop archive l q answers₀ found₀ at₀ answers found at = Walking (contents archive) (take (q .size) (q .numbers)) answers₀ at found answers

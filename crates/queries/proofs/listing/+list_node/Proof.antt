@@ -10,13 +10,13 @@ use Rattle.queries.proofs.Listed.{pairs-empty, pairs-leaf, pairs-halves
 use Prim.Native.Nat.{ℕ, _-_, _<_}
 use borrow.Fn.Kinds.{In}
 use borrow.Fn.PlainCycle.{Measures, is, falls, and}
-use Rattle.queries.proofs.list.list_node.Reads as list-node
-use Rattle.queries.proofs.list.list_node.Kinds as list-node-kinds
-use Rattle.queries.proofs.list.+list_node.Lts-list_node as list-node-lts
+use Rattle.queries.proofs.listing.list_node.Reads as list-node
+use Rattle.queries.proofs.listing.list_node.Kinds as list-node-kinds
+use Rattle.queries.proofs.listing.+list_node.Lts-list_node as list-node-lts
 use Rattle.queries.proofs.pairs.put_pair.Reads as put-pair-reads
 use Rattle.wavelet.proofs.halve.Reads as halve-reads
-use Rattle.queries.proofs.list.+list_node.{statement}
-use Rattle.queries.proofs.list.+list_node.Tie.{close}
+use Rattle.queries.proofs.listing.+list_node.{statement}
+use Rattle.queries.proofs.listing.+list_node.Tie.{close}
 
 abbrev μ-list-node : Measures 2 list-node-kinds.ps ℕ
 μ-list-node κs a = a .1 .0 .height - a .1 .1 .0

@@ -1,9 +1,9 @@
 use borrow.Author.Needs.{needs}
-use Prim.Native.Nat.{ℕ, _≤_}
+use Prim.Native.Nat.{ℕ, _≤_, _-_}
 use native.Mathlib.Omega.{arith}
 use mathlib.Core.Path.{_≡_}
 use mathlib.Core.List.{List}
-use lib.ListN.{length, getD}
+use lib.ListN.{length, getD, take}
 use lib.Seq.{length-take-le, getD-take}
 use Rattle.model.specs.Format.{Library}
 use Rattle.model.specs.Queries.{under}
@@ -11,13 +11,10 @@ use Rattle.model.proofs.Lists.{within-at}
 use Rattle.wavelet.specs.declared.Next.the-variants.{Document, Nothing}
 use Rattle.wavelet.specs.Ranges.{nextOf}
 use Rattle.archive.proofs.Opened.{fitting, entries-size, entries-within}
-use Rattle.queries.proofs.Leaps.{next-bound}
-use Prim.Native.Nat.{_-_}
-use lib.ListN.{take}
+use Rattle.queries.proofs.Leaps.{next-bound, Leaping, leaping-start, leaping-next, leaping-none, leaping-end}
 use Rattle.model.specs.Opening.{contents}
-use Rattle.queries.proofs.Leaps.{Leaping, leaping-start, leaping-next, leaping-none, leaping-end}
-use Rattle.queries.proofs.conjunction.leap.Statement.{statement}
-use Rattle.queries.proofs.conjunction.leap.Tie as tie
+use Rattle.queries.proofs.conjunctions.leap.Statement.{statement}
+use Rattle.queries.proofs.conjunctions.leap.Tie as tie
 
 abbrev Inv-loop : tie.InvT-loop
 Inv-loop archive l from q size at₀ sum₀ i₀ at sum i = Leaping (contents archive) (l .levels .height) from (take (q .size) (q .numbers)) i at sum

@@ -9,8 +9,8 @@ use Rattle.model.specs.Queries.{termStart}
 use Rattle.wavelet.specs.Ranges.{nextOf}
 use Rattle.archive.proofs.TermTable.{term-start-mono}
 use Rattle.archive.proofs.Opened.{stored, entries-are}
-use Rattle.queries.proofs.conjunction.next_under.Statement.{statement}
-use Rattle.queries.proofs.conjunction.next_under.Tie as tie
+use Rattle.queries.proofs.conjunctions.next_under.Statement.{statement}
+use Rattle.queries.proofs.conjunctions.next_under.Tie as tie
 
 term-start-requires : tie.Need-term-start-requires
 term-start-requires c κs = search needs

@@ -1,18 +1,23 @@
 // Conjunction: the documents with an entry under each of several terms, ascending, with the sum of their counts.
+use crate::Answer;
 use crate::Terms;
 use crate::pairs::put_pair;
 use archive::Layout;
+use archive::Opening;
+use archive::open;
 use archive::term_start;
 use wavelet::Next;
 use wavelet::next_document;
 ghost use mathlib.Core.Path.{_≡_};
 ghost use Prim.Native.Nat.{_*_, _≤_, _<_};
 ghost use lib.ListN.{length, take};
-ghost use Rattle.model.specs.Lists.{overwrite};
+ghost use lib.Dec.{leb};
+ghost use Rattle.model.specs.Lists.{any, overwrite};
 ghost use Rattle.model.specs.Opening.{contents};
 ghost use Rattle.model.specs.Queries as model;
 ghost use Rattle.wavelet.specs.Ranges.{nextOf};
 ghost use Rattle.archive.specs.Layout.{Opened};
+ghost use Rattle.queries.specs.Answers.{pairsOf};
 ghost use Rattle.queries.specs.Conjunction.{Asked, leapOver};
 
 // The next document from `from` upward under a term.
@@ -71,5 +76,50 @@ pub fn conjunction_in(archive: &[u8], l: Layout, q: Terms, answers: &mut [u32]) 
         } else {
             at = document;
         }
+    }
+}
+
+// Whether one of the terms is no term of the archive.
+fn term_missing(l: Layout, q: Terms) -> bool
+    requires { ⌜ q .size ≤ 8 ⌝ }
+    ensures { λ r. ⌜ r ≡ any (leb (l .terms)) (take (q .size) (q .numbers)) ⌝ }
+{
+    let size = q.size as usize;
+    let mut i: usize = 0;
+    while i < size {
+        let term = q.numbers[i] as usize;
+        if l.terms <= term {
+            return true;
+        }
+        i += 1;
+    }
+    false
+}
+
+fn conjunction_opened(archive: &[u8], l: Layout, q: Terms, answers: &mut [u32]) -> Answer
+    requires { ⌜ Opened (now archive) l ⌝ }
+    ensures { λ r. ⌜ pairsOf r (now (answers .exit)) ≡ model.conjunctionResult (now (archive .entry)) (q .numbers) (q .size) (now (answers .entry)) ⌝ }
+{
+    if q.size == 0 {
+        return Answer::Refused(10);
+    }
+    if 8 < q.size {
+        return Answer::Refused(10);
+    }
+    if term_missing(l, q) {
+        return Answer::Refused(11);
+    }
+    if answers.len() < 2 * l.documents {
+        return Answer::Refused(12);
+    }
+    Answer::Number(conjunction_in(archive, l, q, answers) as u32)
+}
+
+pub fn conjunction(archive: &[u8], q: Terms, answers: &mut [u32]) -> Answer
+    ensures { λ r. ⌜ pairsOf r (now (answers .exit)) ≡ model.conjunctionResult (now (archive .entry)) (q .numbers) (q .size) (now (answers .entry)) ⌝ }
+{
+    match open(archive) {
+        Opening::Accepted(l) => conjunction_opened(archive, l, q, answers),
+        Opening::Refused(number) => Answer::Refused(number),
     }
 }

@@ -7,8 +7,8 @@ use Rattle.model.specs.Queries.{Pair}
 use Rattle.queries.specs.Written.{Written}
 use Rattle.queries.proofs.Stores.{written-front}
 use Rattle.queries.proofs.Listed.{pairs-root}
-use Rattle.queries.proofs.list.list_range.Statement.{statement}
-use Rattle.queries.proofs.list.list_range.Tie as tie
+use Rattle.queries.proofs.listing.list_range.Statement.{statement}
+use Rattle.queries.proofs.listing.list_range.Tie as tie
 
 list-node-requires : tie.Need-list-node-requires
 list-node-requires c κs =
