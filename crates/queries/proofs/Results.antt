@@ -1,0 +1,187 @@
+-- What the results of model come to, for bytes that are refused and for an opened archive.
+use Prim.Native.Nat.{ℕ, _+_, _*_, _≤_, _<_}
+use native.Mathlib.Omega.{arith}
+use native.Mathlib.Numerals.{add-one}
+use mathlib.Core.Path.{_≡_, refl, sym, ap, _∙_}
+use mathlib.Core.List.{List}
+use mathlib.Core.Bool.{Bool, true, false, cond, _||_}
+use lib.ListN.{length, getD, take}
+use lib.Dec.{leb, ltb, eqb}
+use borrow.Author.Tests.{ltb-true, lt-ltb, le-ltb, le-leb, lt-leb, eq-eqb, ne-eqb}
+use Rattle.bit_rows.specs.declared.Found.{Found}
+use Rattle.bit_rows.specs.declared.Found.the-variants.{At, Nothing}
+use Rattle.bit_rows.specs.Sequences.{rank, select}
+use Rattle.bit_rows.specs.Rows.{foundAt}
+use Rattle.bit_rows.proofs.Tests.{or-right}
+use Rattle.model.specs.Lists.{any, overwrite, Within}
+use Rattle.model.specs.Outcome.{Outcome, answered, refused, refuse}
+use Rattle.model.specs.Format.{Sizes}
+use Rattle.model.specs.Opening.{opening, contents}
+use Rattle.model.specs.Queries.{Place, place, none, placeBelow, Range, ofTerms, boundsOf, termStart, PairsResult, pairsInto, flat, quantile, conjunction, accessResult, rankResult, selectResult, rangeResult, quantileResult, listResult, conjunctionResult}
+use Rattle.model.proofs.Wavelet.Sorted.{quantile-ranked, tally-below-suc}
+use Rattle.wavelet.proofs.NextDocument.{occurs-lt}
+use Rattle.archive.specs.declared.Layout.{Layout}
+use Rattle.archive.specs.declared.Opening.the-variants.{Refused}
+use Rattle.archive.specs.Layout.{Opened}
+use Rattle.archive.specs.Opening.{openedAs}
+use Rattle.archive.proofs.Opened.{entries-size, documents-are, lengths-size}
+use Rattle.queries.specs.Ranges.{quantileOf, listOf}
+
+-- an answer with a refusal
+pub refused-of : (bytes : List ℕ) (number : ℕ) → openedAs (opening bytes) ≡ Refused number → opening bytes ≡ refused number
+refused-of bytes number = go (opening bytes)
+  where
+    go : (o : Outcome Sizes) → openedAs o ≡ Refused number → o ≡ refused number
+    go (answered s) q = absurd (let z : _≡_ {A = ℕ} 0 1 = cc in omega arith)
+    go (refused x) q = let e : x ≡ number = cc in ap refused e
+
+-- ---- a place that is found
+
+abbrev pub placeIn : Found → Place
+placeIn (At p) = place p
+placeIn Nothing = none
+
+pub found-place : (n p : ℕ) (f : Found) → f ≡ foundAt n p → placeIn f ≡ placeBelow n p
+found-place n p f e = ap placeIn e ∙ go (ltb p n)
+  where
+    go : (b : Bool) → placeIn (cond b (At p) Nothing) ≡ cond b (place p) none
+    go true = refl
+    go false = refl
+
+pub found-lt : (n p x : ℕ) → At x ≡ foundAt n p → x < n
+found-lt n p x = go (ltb p n) refl
+  where
+    go : (b : Bool) → ltb p n ≡ b → At x ≡ cond b (At p) Nothing → x < n
+    go true t e = let q : x ≡ p = cc in omega (arith, ltb-true p n t)
+    go false t e = absurd (let z : _≡_ {A = ℕ} 0 1 = cc in omega arith)
+
+-- the document of a rank is one of the entries
+pub quantile-lt : (N : ℕ) (xs : List ℕ) (r : ℕ) → Within N xs → r < length xs → quantile r xs < N
+quantile-lt N xs r w l =
+    let p = quantile-ranked xs r l in
+    occurs-lt N (quantile r xs) xs w (omega (arith, p .under, p .over, tally-below-suc (quantile r xs) xs))
+
+-- ---- of an opened archive
+
+module _ (bytes : List ℕ) (l : Layout) (o : Opened bytes l) where
+  abbrev n : ℕ
+  n = l .levels .entries
+
+  abbrev xs : List ℕ
+  xs = contents bytes .entries
+
+  -- documents by the bytes' own N
+  no-document : (d : ℕ) → l .documents ≤ d → leb (contents bytes .documents) d ≡ true
+  no-document d h = le-leb (contents bytes .documents) d (rw (documents-are bytes l o) h)
+
+  a-document : (d : ℕ) → d < l .documents → leb (contents bytes .documents) d ≡ false
+  a-document d h = lt-leb (contents bytes .documents) d (rw (documents-are bytes l o) h)
+
+  -- ---- one entry
+
+  pub access-out : (p : ℕ) → n ≤ p → refused 11 ≡ accessResult bytes p
+  access-out p h = rw (o .accepted, entries-size bytes l o, le-leb n p h)
+
+  pub access-is : (p r : ℕ) → p < n → r ≡ getD xs p 0 → answered r ≡ accessResult bytes p
+  access-is p r h e = rw (o .accepted, entries-size bytes l o, lt-leb n p h) (ap answered e)
+
+  pub rank-no-document : (d p : ℕ) → l .documents ≤ d → refused 11 ≡ rankResult bytes d p
+  rank-no-document d p h = rw (o .accepted, no-document d h)
+
+  pub rank-out : (d p : ℕ) → n < p → refused 11 ≡ rankResult bytes d p
+  rank-out d p h =
+      rw (o .accepted, entries-size bytes l o, or-right (leb (contents bytes .documents) d) (ltb n p) (lt-ltb n p h))
+
+  pub rank-is : (d p r : ℕ) → d < l .documents → p ≤ n → r ≡ rank d xs p → answered r ≡ rankResult bytes d p
+  rank-is d p r h k e =
+      rw (o .accepted, a-document d h, entries-size bytes l o, le-ltb n p k) (ap answered e)
+
+  pub select-no-document : (d j : ℕ) → l .documents ≤ d → refused 11 ≡ selectResult bytes d j
+  select-no-document d j h = rw (o .accepted, no-document d h)
+
+  pub select-zeroth : (d j : ℕ) → j ≡ 0 → refused 11 ≡ selectResult bytes d j
+  select-zeroth d j h = rw (o .accepted, or-right (leb (contents bytes .documents) d) (eqb j 0) (eq-eqb j 0 h))
+
+  pub select-is : (d j : ℕ) (f : Found) → d < l .documents → (j ≡ 0 → ⊥) → f ≡ foundAt n (select d xs j) → answered (placeIn f) ≡ selectResult bytes d j
+  select-is d j f h k e =
+      rw (o .accepted, a-document d h, entries-size bytes l o, ne-eqb j 0 k)
+      (ap answered (found-place n (select d xs j) f e))
+
+  -- ---- ranges
+
+  pub terms-reversed : (f t : ℕ) → t < f → refused 11 ≡ boundsOf (contents bytes) (ofTerms f t)
+  terms-reversed f t h = rw (lt-ltb t f h)
+
+  pub terms-past : (f t : ℕ) → f ≤ t → l .terms ≤ t → refused 11 ≡ boundsOf (contents bytes) (ofTerms f t)
+  terms-past f t h k =
+      rw (le-ltb t f h, lengths-size bytes l o, or-right (leb (l .terms) f) (leb (l .terms) t) (le-leb (l .terms) t k))
+
+  pub terms-are : (f t a b : ℕ) → f ≤ t → t < l .terms → a ≡ termStart (contents bytes) f → b ≡ termStart (contents bytes) (t + 1)
+      → answered (record { from = a; to = b }) ≡ boundsOf (contents bytes) (ofTerms f t)
+  terms-are f t a b h k p q =
+      let m : f < l .terms = omega arith in
+      rw (le-ltb t f h, lengths-size bytes l o, lt-leb (l .terms) f m, lt-leb (l .terms) t k)
+      (λ i. answered (record { from = p i; to = (q ∙ ap (termStart (contents bytes)) (add-one t)) i }))
+
+  pub range-is : (range : Range) → boundsOf (contents bytes) range ≡ rangeResult bytes range
+  range-is range = rw (o .accepted)
+
+  pub quantile-is : (range : Range) (r : ℕ) → quantileOf (contents bytes) (boundsOf (contents bytes) range) r ≡ quantileResult bytes range r
+  quantile-is range r = rw (o .accepted)
+
+  pub list-is : (range : Range) (answers : List ℕ) → listOf (contents bytes) (boundsOf (contents bytes) range) answers ≡ listResult bytes range answers
+  list-is range answers = rw (o .accepted)
+
+  -- ---- conjunction
+
+  module _ (numbers : List ℕ) (size : ℕ) (answers : List ℕ) where
+    -- the result of model, with W and N of the layout
+    abbrev conjunctionOf : PairsResult
+    conjunctionOf =
+        pairsInto answers
+        (refuse 10 (eqb size 0 || ltb 8 size)
+        (refuse 11 (any (leb (l .terms)) (take size numbers))
+        (refuse 12 (ltb (length answers) (2 * l .documents)) (answered (conjunction (contents bytes) (take size numbers))))))
+
+    conjunction-is : conjunctionOf ≡ conjunctionResult bytes numbers size answers
+    conjunction-is =
+        rw (o .accepted, lengths-size bytes l o)
+        (ap (λ (N : ℕ). pairsInto answers (refuse 10 (eqb size 0 || ltb 8 size) (refuse 11 (any (leb (l .terms)) (take size numbers))
+        (refuse 12 (ltb (length answers) (2 * N)) (answered (conjunction (contents bytes) (take size numbers))))))) (sym (documents-are bytes l o)))
+
+    abbrev refusing : ℕ → PairsResult
+    refusing number = record { outcome = refused number; answers = answers }
+
+    pub terms-none : size ≡ 0 → refusing 10 ≡ conjunctionResult bytes numbers size answers
+    terms-none h = go ∙ conjunction-is
+      where
+        go : refusing 10 ≡ conjunctionOf
+        go = rw (eq-eqb size 0 h)
+
+    pub terms-many : 8 < size → refusing 10 ≡ conjunctionResult bytes numbers size answers
+    terms-many h = go ∙ conjunction-is
+      where
+        go : refusing 10 ≡ conjunctionOf
+        go = rw (or-right (eqb size 0) (ltb 8 size) (lt-ltb 8 size h))
+
+    module _ (h : size ≡ 0 → ⊥) (k : size ≤ 8) where
+      pub terms-missing : any (leb (l .terms)) (take size numbers) ≡ true → refusing 11 ≡ conjunctionResult bytes numbers size answers
+      terms-missing e = go ∙ conjunction-is
+        where
+          go : refusing 11 ≡ conjunctionOf
+          go = rw (ne-eqb size 0 h, le-ltb 8 size k, e)
+
+      module _ (e : any (leb (l .terms)) (take size numbers) ≡ false) where
+        pub terms-short : length answers < 2 * l .documents → refusing 12 ≡ conjunctionResult bytes numbers size answers
+        terms-short m = go ∙ conjunction-is
+          where
+            go : refusing 12 ≡ conjunctionOf
+            go = rw (ne-eqb size 0 h, le-ltb 8 size k, e, lt-ltb (length answers) (2 * l .documents) m)
+
+        pub terms-answered : 2 * l .documents ≤ length answers → (r : ℕ) (after : List ℕ) → r ≡ length (conjunction (contents bytes) (take size numbers))
+            → after ≡ overwrite (flat (conjunction (contents bytes) (take size numbers))) answers
+            → _≡_ {A = PairsResult} (record { outcome = answered r; answers = after }) (conjunctionResult bytes numbers size answers)
+        terms-answered m r after p q = go ∙ conjunction-is
+          where
+            go : _≡_ {A = PairsResult} (record { outcome = answered r; answers = after }) conjunctionOf
+            go = rw (ne-eqb size 0 h, le-ltb 8 size k, e, le-ltb (length answers) (2 * l .documents) m) (λ i. record { outcome = answered (p i); answers = q i })

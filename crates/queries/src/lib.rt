@@ -1,0 +1,52 @@
+// The questions of an archive, each with its refusals. A name that ends in `_in` is the question without them, of an opened archive.
+mod conjunctions;
+mod entry;
+mod listing;
+mod numbers;
+mod pairs;
+mod quantiles;
+mod ranges;
+
+pub use conjunctions::conjunction;
+pub use conjunctions::conjunction_in;
+pub use entry::access;
+pub use entry::access_in;
+pub use entry::rank;
+pub use entry::rank_in;
+pub use entry::select;
+pub use entry::select_in;
+pub use listing::list;
+pub use listing::list_in;
+pub use listing::list_terms;
+pub use numbers::per_mille;
+pub use quantiles::quantile;
+pub use quantiles::quantile_in;
+pub use quantiles::quantile_terms;
+pub use ranges::entry_range;
+pub use ranges::range_of_terms;
+pub use ranges::term_range;
+
+// What a question for a number answers: the number, or the number of a refusal. A question for pairs answers how many they are.
+pub enum Answer {
+    Number(u32),
+    Refused(u32),
+}
+
+// What a question for a place answers: the place, none, or the number of a refusal.
+pub enum Placed {
+    At(u32),
+    Nothing,
+    Refused(u32),
+}
+
+// What a question for a range answers: the entries from one place up to but without another, or the number of a refusal.
+pub enum Range {
+    Entries { from: u32, to: u32 },
+    Refused(u32),
+}
+
+// The terms of a conjunction: so many of the numbers, one to eight.
+pub struct Terms {
+    pub numbers: [u32; 8],
+    pub size: u32,
+}
