@@ -5,15 +5,15 @@ mod check;
 mod keys;
 mod offsets;
 mod put;
-mod terms;
 mod reader;
+mod terms;
 mod writer;
 
 pub use check::open;
 pub use offsets::archive_length;
 pub use offsets::layout_of;
-pub use terms::term_start;
 pub use reader::read_opened;
+pub use terms::term_start;
 pub use writer::write;
 
 // The layout of an opened archive: N, W, and where its levels lie, n and h with them.
