@@ -12,7 +12,7 @@ use Rattle.model.specs.Format.{Sizes, withinLimits}
 use Rattle.model.specs.Opening.{sizesAt, entriesAt, opening}
 use Rattle.wavelet.specs.Levels.{entriesIn}
 use Rattle.archive.specs.declared.Layout.{Layout}
-use Rattle.archive.specs.declared.Opening.the-variants.{Accepted}
+use Rattle.archive.specs.declared.Opening.the-variants.{Accepted, Refused}
 use Rattle.archive.specs.Layout.{sizesIn, layoutOf, Opened}
 use Rattle.archive.specs.Opening.{openedAs, partsOutcome}
 
@@ -44,3 +44,11 @@ opened-of bytes l = go (opening bytes) refl
         let p : layoutOf s ≡ l = cc in
         record { accepted = e ∙ ap (λ (x : Layout). answered (sizesIn x)) p; shape = sym p ∙ ap (λ (x : Layout). layoutOf (sizesIn x)) p }
     go (refused number) e q = absurd (let z : _≡_ {A = ℕ} 0 1 = cc in omega arith)
+
+-- an answer with a number: the bytes are refused under it
+pub refused-of : (bytes : List ℕ) (number : ℕ) → openedAs (opening bytes) ≡ Refused number → opening bytes ≡ refused number
+refused-of bytes number = go (opening bytes)
+  where
+    go : (o : Outcome Sizes) → openedAs o ≡ Refused number → o ≡ refused number
+    go (answered s) q = absurd (let z : _≡_ {A = ℕ} 0 1 = cc in omega arith)
+    go (refused k) q = let e : k ≡ number = cc in ap refused e

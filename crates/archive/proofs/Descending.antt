@@ -79,7 +79,7 @@ module _ (h j : ℕ) (xs : List ℕ) (level : j < h) (within : Within (2 ^ h) xs
   ks-at : (i : ℕ) → i < length xs → getD ks i 0 ≡ key h j (getD xs i 0)
   ks-at i l = getD-map (key h j) xs i 0 0 l
 
-  pub ks-below : (i : ℕ) → i < length ks → getD ks i 0 < 2 ^ j
+  ks-below : (i : ℕ) → i < length ks → getD ks i 0 < 2 ^ j
   ks-below i l =
       let m : i < length xs = omega (arith, ks-size) in
       rw (ks-at i m) (key-lt h j (getD xs i 0) (le-of-lt level) (within-at (2 ^ h) xs i within m))
@@ -100,7 +100,7 @@ module _ (h j : ℕ) (xs : List ℕ) (level : j < h) (within : Within (2 ^ h) xs
         (ap₂ (λ (a b : ℕ). a + b) (tally-map (λ k. ltb k q) (key h j) xs)
         (ap (tally (λ k. eqb k q)) (map-take (key h j) i xs) ∙ tally-map (λ k. eqb k q) (key h j) (take i xs)))
 
-    pub place-inside : placeOf ks i < length xs
+    place-inside : placeOf ks i < length xs
     place-inside = rw place-is (omega (arith, row-pos-lt h j xs q i q-below l refl, row-length h j xs (le-of-lt level) within))
 
     deeper : 2 * getD ks i 0 + getD (row h j xs) (placeOf ks i) 0 ≡ key h (suc j) x
@@ -110,7 +110,7 @@ module _ (h j : ℕ) (xs : List ℕ) (level : j < h) (within : Within (2 ^ h) xs
         let d = key-half h j x level in
         omega arith
 
-  pub deepened : (bytes after : List ℕ) → ((p : ℕ) → p < length xs → bitAt bytes p ≡ getD (row h j xs) p 0) → length after ≡ length ks
+  deepened : (bytes after : List ℕ) → ((p : ℕ) → p < length xs → bitAt bytes p ≡ getD (row h j xs) p 0) → length after ≡ length ks
       → Deepened bytes ks after → after ≡ map (key h (j + 1)) xs
   deepened bytes after bits size deep =
       rw (add-one j)

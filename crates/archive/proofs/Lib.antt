@@ -4,8 +4,9 @@ pub mod Parts
 pub mod Acceptance
 pub mod TermTable
 pub mod Opened
-pub mod Assembly
+pub mod Demand2
 pub mod Contents
+pub mod Assembly
 pub mod Counters
 pub mod Descending
 pub mod Filling
@@ -13,4 +14,3 @@ pub mod Leveling
 pub mod Numbers
 pub mod Overwrite
 pub mod Refusals
-pub mod Demand2

@@ -29,6 +29,12 @@ pub record Room (xs : List ℕ) (t : Levels) (target : List ℕ) : Type 0 where
   pub rows-is : t .rows ≡ t .samples + t .height * (4 * sampleCount (t .entries))
   pub fits : t .rows + t .height * rowBytes (t .entries) ≤ length target
 
+-- row j of the entries and its samples, written into the target
+abbrev pub withLevel : List ℕ → Levels → ℕ → List ℕ → List ℕ
+withLevel xs t j target =
+    overwriteAt (t .rows + j * rowBytes (t .entries)) (pack (row (t .height) j xs))
+    (overwriteAt (t .samples + j * (4 * sampleCount (t .entries))) (samplesOf (row (t .height) j xs)) target)
+
 -- the first m levels of the entries are written, and what stands before and behind the levels is untouched
 pub record Leveled (xs : List ℕ) (t : Levels) (m : ℕ) (before after : List ℕ) : Type 0 where
   pub samples : (j : ℕ) → j < m → samplesIn after t j ≡ samplesOf (row (t .height) j xs)

@@ -12,6 +12,7 @@ mod writer;
 pub use check::open;
 pub use offsets::archive_length;
 pub use offsets::layout_of;
+pub use reader::read;
 pub use reader::read_opened;
 pub use terms::term_start;
 pub use writer::write;
@@ -32,5 +33,15 @@ pub enum Opening {
 // The writer's answer: the archive's length in bytes, or the number of a refusal.
 pub enum Written {
     Length(usize),
+    Refused(u32),
+}
+
+// The reader's answer: n, N and W, or the number of a refusal.
+pub enum Reading {
+    Read {
+        entries: usize,
+        documents: usize,
+        terms: usize,
+    },
     Refused(u32),
 }

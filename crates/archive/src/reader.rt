@@ -1,5 +1,8 @@
-// The reader: the entries of an archive that is opened, row by row for all of them at once, and its term lengths.
+// The reader: the check on opening, then the entries, row by row for all of them at once, and the term lengths.
 use crate::Layout;
+use crate::Opening;
+use crate::Reading;
+use crate::check::open;
 use crate::keys::starts;
 use crate::keys::wide;
 use bit_rows::bit;
@@ -11,11 +14,11 @@ ghost use Prim.Native.Nat.{_+_, _*_, _≤_, _<_};
 ghost use lib.ListN.{length};
 ghost use Rattle.bit_rows.specs.Sequences.{below};
 ghost use Rattle.model.specs.Lists.{overwrite};
-ghost use Rattle.model.specs.Opening.{lengthAt, contents};
+ghost use Rattle.model.specs.Opening.{lengthAt, contents, readInto, readResult};
 ghost use Rattle.wavelet.specs.Levels.{entriesIn};
 ghost use Rattle.archive.specs.Keys.{Zeros};
 ghost use Rattle.archive.specs.Layout.{Opened};
-ghost use Rattle.archive.specs.Reading.{Descent, Deepened, Readable, keysAt};
+ghost use Rattle.archive.specs.Reading.{Descent, Deepened, Readable, keysAt, roomOutcome, readingOf};
 
 // Appends to each key its bit of the row, which stands at the next free place of the key.
 fn deepen(row: &[u8], next: &mut [u32], keys: &mut [u32])
@@ -47,6 +50,7 @@ fn read_row(archive: &[u8], t: Levels, j: usize, keys: &mut [u32])
     deepen(&archive[at..], &mut next, keys);
 }
 
+// Sets all keys to 0, that of the root.
 fn clear(keys: &mut [u32])
     ensures { λ r. ⌜ Zeros (now (keys .exit)) ⌝ }
 {
@@ -96,4 +100,35 @@ pub fn read_opened(archive: &[u8], l: Layout, entries: &mut [u32], lengths: &mut
     let terms = l.terms;
     read_entries(archive, t, &mut entries[..n]);
     read_lengths(archive, &mut lengths[..terms]);
+}
+
+// Refusal 12, or n, N and W.
+fn read_checked(archive: &[u8], l: Layout, entries: &mut [u32], lengths: &mut [u32]) -> Reading
+    requires { ⌜ Opened (now archive) l ⌝ }
+    ensures { λ r. ⌜ record { outcome = readingOf r; entries = now (entries .exit); lengths = now (lengths .exit) } ≡ readInto (now (archive .entry)) (now (entries .entry)) (now (lengths .entry)) (roomOutcome l (now (entries .entry)) (now (lengths .entry))) ⌝ }
+{
+    let n = l.levels.entries;
+    let terms = l.terms;
+    if entries.len() < n {
+        return Reading::Refused(12);
+    }
+    if lengths.len() < terms {
+        return Reading::Refused(12);
+    }
+    read_opened(archive, l, entries, lengths);
+    Reading::Read {
+        entries: n,
+        documents: l.documents,
+        terms,
+    }
+}
+
+// The reader: the entries and the term lengths in the front of two slices, and n, N and W, or the lowest refusal that applies.
+pub fn read(archive: &[u8], entries: &mut [u32], lengths: &mut [u32]) -> Reading
+    ensures { λ r. ⌜ record { outcome = readingOf r; entries = now (entries .exit); lengths = now (lengths .exit) } ≡ readResult (now (archive .entry)) (now (entries .entry)) (now (lengths .entry)) ⌝ }
+{
+    match open(archive) {
+        Opening::Refused(number) => Reading::Refused(number),
+        Opening::Accepted(l) => read_checked(archive, l, entries, lengths),
+    }
 }

@@ -7,7 +7,7 @@ use mathlib.Core.Path.{_≡_, refl, sym, ap, ap₂, _∙_}
 use mathlib.Core.List.{List, [], _∷_, _++_, map, map-map, append-nil}
 use mathlib.Core.Bool.{true}
 use lib.ListN.{length, getD, take, drop, length-take, length-map}
-use lib.Seq.{getD-take, getD-drop, take-all, drop-cons, drop-drop, take-add}
+use lib.Seq.{getD-drop, take-all, drop-cons, drop-drop, take-add}
 use lib.Dec.{eqb}
 use borrow.Author.Tests.{eqb-true, eq-eqb}
 use Rattle.bit_rows.specs.Sequences.{below}
@@ -23,13 +23,6 @@ numberAt-drop bytes k j =
     let at : (i : ℕ) → getD (drop k bytes) (j + i) 0 ≡ getD bytes (k + j + i) 0
     = λ i. getD-drop k bytes (j + i) 0 ∙ ap (λ (n : ℕ). getD bytes n 0) (sym (add-assoc k j i)) in
     λ i. getD-drop k bytes j 0 i + 256 * at 1 i + 65536 * at 2 i + 16777216 * at 3 i
-
--- a number inside a front part
-pub numberAt-take : (n : ℕ) (bytes : List ℕ) (j : ℕ) → j + 4 ≤ n → numberAt (take n bytes) j ≡ numberAt bytes j
-numberAt-take n bytes j l =
-    λ i.
-    getD-take n bytes j 0 (omega arith) i + 256 * getD-take n bytes (j + 1) 0 (omega arith) i + 65536 * getD-take n bytes (j + 2) 0 (omega arith) i
-    + 16777216 * getD-take n bytes (j + 3) 0 (omega arith) i
 
 -- dividing by 256 four times takes a number apart into its bytes
 quarters : (x c1 c2 d0 d1 d2 d3 : ℕ) → x ≡ 256 * c1 + d0 → c1 ≡ 256 * c2 + d1 → c2 ≡ 256 * d3 + d2

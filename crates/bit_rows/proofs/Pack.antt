@@ -43,18 +43,6 @@ module _ (bits : List ℕ) (small : (i : ℕ) → getD bits i 0 < 2) (k : ℕ) w
       eight (λ r. byteOf bits k / 2 ^ r % 2 ≡ getD bits (8 * k + r) 0)
       (omega arith) (omega arith) (omega arith) (omega arith) (omega arith) (omega arith) (omega arith) (omega arith)
 
-  byte-lt : byteOf bits k < 256
-  byte-lt =
-      let l0 = small (8 * k + 0) in
-      let l1 = small (8 * k + 1) in
-      let l2 = small (8 * k + 2) in
-      let l3 = small (8 * k + 3) in
-      let l4 = small (8 * k + 4) in
-      let l5 = small (8 * k + 5) in
-      let l6 = small (8 * k + 6) in
-      let l7 = small (8 * k + 7) in
-      omega arith
-
 -- ---- packed bits
 
 pub length-pack : (bits : List ℕ) → length (pack bits) ≡ rowBytes (length bits)
@@ -87,13 +75,6 @@ module _ (bits : List ℕ) (small : (i : ℕ) → getD bits i 0 < 2) where
   unused-pack =
       all-upFrom (λ i. eqb (bitAt (pack bits) i) 0) (length bits) (8 * rowBytes (length bits) - length bits)
       (λ i a b. eq-eqb (bitAt (pack bits) i) 0 (bitAt-pack i (omega arith) ∙ List·getD-eq-default bits 0 a))
-
-  pub pack-lt : (k : ℕ) → getD (pack bits) k 0 < 256
-  pack-lt k = go (decLe (suc k) (rowBytes (length bits)))
-    where
-      go : Dec (k < rowBytes (length bits)) → getD (pack bits) k 0 < 256
-      go (yes l) = rw (getD-pack bits k l) (byte-lt bits small k)
-      go (no l) = rw (List·getD-eq-default (pack bits) 0 {n = k} (rw (length-pack bits) (omega arith))) (omega arith)
 
 -- ---- bytes with clear unused bits
 

@@ -2,95 +2,28 @@
 use mathlib.Core.Path.{_≡_, refl, sym, ap, _∙_}
 use mathlib.Core.Logic.{_≢_, _⊎_, inl, inr}
 use mathlib.Core.Bool.{Bool, true, false}
-use mathlib.Core.List.{List, _++_, append-assoc}
+use mathlib.Core.List.{List}
 use Prim.Native.Nat.{ℕ, zero, suc, _+_, _-_, _*_, _/_, _%_, _^_, _≤_, _<_}
-use native.Mathlib.Nat.{add-zero, zero-mul, one-mul, pow-suc, div-div-eq-div-mul, add-div-right, add-mul-div-right, div-lt-iff-lt-mul, zero-div}
+use native.Mathlib.Nat.{add-zero, zero-mul, one-mul, pow-suc, add-div-right, add-mul-div-right, div-lt-iff-lt-mul, zero-div}
 use native.Mathlib.Decide.{ℕ-discrete}
 use native.Mathlib.Numerals.{one-add, add-one, add-two, add-three}
 use native.Mathlib.Omega.{arith}
 use lib.Dec.{eqb}
-use lib.ListN.{length, getD, set, take, drop, length-set, length-append, length-drop, List·getD-append}
+use lib.ListN.{length, getD, set, length-set}
 use lib.Pow.{pow-pos, pow-add, shr-shr, shr-lt}
-use lib.Seq.{sets-eq, length-take-le, getD-append-add, getD-take, getD-drop, getD-set-same, getD-set-other}
+use lib.Seq.{sets-eq, getD-set-same, getD-set-other}
 use borrow.Author.Tests.{eqb-true, eqb-false, eq-eqb}
-use Rattle.bit_rows.specs.Bits.{bitAt, rowBytes, littleEndian, numberAt, unusedClear}
+use Rattle.bit_rows.specs.Bits.{bitAt, rowBytes, littleEndian, unusedClear}
 use Rattle.bit_rows.specs.Rows.{withBit, withNumber}
 use Rattle.bit_rows.proofs.Tests.{le-or-lt}
 use Rattle.bit_rows.proofs.Tally.{all-upFrom, all-upFrom-at}
 
 -- ---- numbers of 32 bits
 
--- a number below 2 ^ 32 is its four bytes
-pub four-bytes : (x : ℕ) → x < 2 ^ 32 → x % 256 + 256 * (x / 256 % 256) + 65536 * (x / 65536 % 256) + 16777216 * (x / 16777216 % 256) ≡ x
-four-bytes x l = go (x / 256) (x / 65536) (x / 16777216) refl (sym (div-div-eq-div-mul x 256 256)) (sym (div-div-eq-div-mul x 65536 256))
-  where
-    go : (a b c : ℕ) → a ≡ x / 256 → b ≡ a / 256 → c ≡ b / 256 → x % 256 + 256 * (a % 256) + 65536 * (b % 256) + 16777216 * (c % 256) ≡ x
-    go a b c p q r =
-        let h1 : 256 * a + x % 256 ≡ x = omega arith in
-        let h2 : 256 * b + a % 256 ≡ a = omega arith in
-        let h3 : 256 * c + b % 256 ≡ b = omega arith in
-        let h4 : c % 256 ≡ c = omega arith in
-        omega (arith, h1, h2, h3, h4)
-
-module _ (bytes : List ℕ) (k x : ℕ) (fits : k + 4 ≤ length bytes) where
-  -- four stores, one a byte
-  pub stores-number : set (set (set (set bytes k (x % 256)) (k + 1) (x / 256 % 256)) (k + 2) (x / 65536 % 256)) (k + 3) (x / 16777216 % 256)
-      ≡ withNumber bytes k x
-  stores-number = rw (add-one k, add-two k, add-three k) (sets-eq (littleEndian x) bytes k fits)
-
-  front : length (take k bytes) ≡ k
-  front = length-take-le k bytes (omega arith)
-
-  fore : length (take k bytes ++ littleEndian x) ≡ k + 4
-  fore = omega (arith, length-append (take k bytes) (littleEndian x), front)
-
-  pub length-withNumber : length (withNumber bytes k x) ≡ length bytes
-  length-withNumber =
-      omega (arith, length-append (take k bytes ++ littleEndian x) (drop (k + 4) bytes), fore, length-drop (k + 4) bytes)
-
-  -- what the four bytes hold
-  inside : (i : ℕ) → getD (withNumber bytes k x) (k + i) 0 ≡ getD (littleEndian x ++ drop (k + 4) bytes) i 0
-  inside i =
-      rw (append-assoc (take k bytes) (littleEndian x) (drop (k + 4) bytes))
-      (rw front at (getD-append-add (take k bytes) (littleEndian x ++ drop (k + 4) bytes) i 0))
-
-  pub getD-withNumber-lt : (i : ℕ) → i < k → getD (withNumber bytes k x) i 0 ≡ getD bytes i 0
-  getD-withNumber-lt i h =
-      let f = front in
-      let g = fore in
-      List·getD-append (take k bytes ++ littleEndian x) (drop (k + 4) bytes) 0 i (omega arith)
-      ∙ List·getD-append (take k bytes) (littleEndian x) 0 i (omega arith)
-      ∙ getD-take k bytes i 0 h
-
-  pub getD-withNumber-ge : (i : ℕ) → k + 4 ≤ i → getD (withNumber bytes k x) i 0 ≡ getD bytes i 0
-  getD-withNumber-ge i h =
-      let e : k + 4 + (i - (k + 4)) ≡ i = omega arith in
-      let p = rw fore at (getD-append-add (take k bytes ++ littleEndian x) (drop (k + 4) bytes) (i - (k + 4)) 0) in
-      rw e at (p ∙ getD-drop (k + 4) bytes (i - (k + 4)) 0)
-
-  pub numberAt-withNumber : x < 2 ^ 32 → numberAt (withNumber bytes k x) k ≡ x
-  numberAt-withNumber l =
-      omega (arith, four-bytes x l, rw (add-zero k) at (inside 0), inside 1, inside 2, inside 3)
-
-  pub numberAt-withNumber-lt : (i : ℕ) → i + 4 ≤ k → numberAt (withNumber bytes k x) i ≡ numberAt bytes i
-  numberAt-withNumber-lt i h =
-      omega (
-        arith,
-        getD-withNumber-lt i (omega arith),
-        getD-withNumber-lt (i + 1) (omega arith),
-        getD-withNumber-lt (i + 2) (omega arith),
-        getD-withNumber-lt (i + 3) (omega arith),
-      )
-
-  pub numberAt-withNumber-ge : (i : ℕ) → k + 4 ≤ i → numberAt (withNumber bytes k x) i ≡ numberAt bytes i
-  numberAt-withNumber-ge i h =
-      omega (
-        arith,
-        getD-withNumber-ge i (omega arith),
-        getD-withNumber-ge (i + 1) (omega arith),
-        getD-withNumber-ge (i + 2) (omega arith),
-        getD-withNumber-ge (i + 3) (omega arith),
-      )
+-- four stores, one a byte
+pub stores-number : (bytes : List ℕ) (k x : ℕ) → k + 4 ≤ length bytes
+    → set (set (set (set bytes k (x % 256)) (k + 1) (x / 256 % 256)) (k + 2) (x / 65536 % 256)) (k + 3) (x / 16777216 % 256) ≡ withNumber bytes k x
+stores-number bytes k x fits = rw (add-one k, add-two k, add-three k) (sets-eq (littleEndian x) bytes k fits)
 
 -- ---- a bit that is set
 

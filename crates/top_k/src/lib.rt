@@ -1,4 +1,36 @@
-// Top-k: the first documents of the ranking of a range. So far what probing does with its lent slices.
+// Top-k: the first documents of the ranking of a range, by the greedy search, move by move, and by probing.
 mod candidates;
 mod clear;
+pub mod greedy;
+mod node;
 mod rounds;
+pub mod step;
+
+use wavelet::Levels;
+
+// What is searched: the levels of a tree over N documents, and in it the entries a up to but without b.
+pub struct Search {
+    pub levels: Levels,
+    pub documents: usize,
+    pub a: usize,
+    pub b: usize,
+}
+
+// Each move of the search names a document with its count, opens a node, or finds its allowance spent.
+pub enum Move {
+    Names { document: u32, count: u32 },
+    Opens { start: u32, height: u32 },
+    Spent,
+}
+
+// A move, and how many nodes wait after it.
+pub struct Moved {
+    pub made: Move,
+    pub waiting: usize,
+}
+
+// How a search ended: so many pairs listed, and the openings needed or the allowance.
+pub enum Ended {
+    Done { listed: u32, openings: u32 },
+    Spent { listed: u32, allowance: u32 },
+}

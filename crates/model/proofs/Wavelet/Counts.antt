@@ -5,7 +5,7 @@ use mathlib.Core.List.{List}
 use native.Mathlib.Omega.{arith}
 use lib.ListN.{length, drop, length-take}
 use lib.Dec.{ltb, eqb}
-use Rattle.bit_rows.specs.Sequences.{occurrences, rank}
+use Rattle.bit_rows.specs.Sequences.{rank}
 use Rattle.bit_rows.proofs.Tally.{tally-le-length, tally-take-le}
 use Rattle.model.specs.Lists.{part}
 use Rattle.model.specs.Rows.{row}
@@ -16,10 +16,6 @@ use Rattle.model.proofs.Wavelet.Groups.{tally-ltb-suc}
 use Rattle.model.proofs.Wavelet.Rows.{row-ones, count-halves}
 
 -- ---- counts in a part
-
--- the occurrences in a part are the difference of two ranks
-pub part-count : (xs : List ℕ) (v a b : ℕ) → a ≤ b → occurrences v (part a b xs) ≡ rank v xs b - rank v xs a
-part-count xs v a b l = omega (arith, tally-part (eqb v) a b xs l)
 
 module _ (h : ℕ) (xs : List ℕ) (a b : ℕ) (ab : a ≤ b) where
   -- the count of the node q of depth j

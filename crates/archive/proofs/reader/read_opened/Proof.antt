@@ -6,7 +6,8 @@ use lib.Seq.{length-take-le}
 use borrow.Author.Needs.{needs}
 use Rattle.bit_rows.specs.Sequences.{below}
 use Rattle.model.specs.Opening.{lengthAt, contents}
-use Rattle.archive.proofs.Contents.{overwritten, opened-readable, opened-fitting, opened-table, entries-are, lengths-are}
+use Rattle.archive.proofs.Opened.{fitting, entries-are}
+use Rattle.archive.proofs.Contents.{overwritten, opened-readable, opened-table, lengths-are}
 use Rattle.archive.proofs.reader.read_opened.Statement.{statement}
 use Rattle.archive.proofs.reader.read_opened.Tie as tie
 
@@ -35,7 +36,7 @@ read-lengths-requires : tie.Need-read-lengths-requires
 read-lengths-requires c κs =
     let s = c .before .before .before .before .before .before .before .before .before in
     let e = length-take-le (s .args .l .terms) (s .args .lengths .now) (s .pre .1 .1) in
-    let f = opened-fitting (s .args .archive .now) (s .args .l) (s .pre .0) in
+    let f = fitting (s .args .archive .now) (s .args .l) (s .pre .0) in
     omega (arith, opened-table (s .args .archive .now) (s .args .l) (s .pre .0), f .terms)
 
 same-length : tie.Need-same-length
