@@ -4,11 +4,14 @@ use archive::Layout;
 use archive::Opening;
 use archive::Written;
 use bit_rows::Found;
+use top_k::Ended;
+use top_k::Search;
 use wavelet::Levels;
-ghost use Prim.Native.Nat.{_-_, _^_, _≤_, _<_};
+ghost use Prim.Native.Nat.{_-_, _*_, _^_, _≤_, _<_, min};
 ghost use lib.ListN.{length};
 ghost use Rattle.wavelet.specs.Levels.{Stored};
 ghost use Rattle.archive.specs.Layout.{Opened};
+ghost use Rattle.top_k.specs.Moves.{Searchable};
 
 // 0 for an archive that is accepted, else the number of the refusal.
 #[no_mangle]
@@ -174,4 +177,43 @@ pub extern "C" fn candidate_quantile(
         r,
     );
     (found.count << 16) ^ found.document
+}
+
+// The pairs in the bits below 32, the openings from 32 on, and in bit 63 whether the allowance was spent.
+#[no_mangle]
+pub extern "C" fn candidate_greedy(
+    bytes: &[u8],
+    n: usize,
+    height: usize,
+    samples: usize,
+    rows: usize,
+    documents: usize,
+    a: usize,
+    b: usize,
+    k: u32,
+    allowance: u32,
+    answers: &mut [u32],
+    work: &mut [u32],
+) -> u64
+    requires { ⌜ Searchable (now bytes) (record { levels = record { entries = n; height = height; samples = samples; rows = rows }; documents = documents; a = a; b = b }) ⌝ }
+    requires { ⌜ (2 * min k documents ≤ length (now answers)) × (4 * documents ≤ length (now work)) ⌝ }
+{
+    let levels = Levels {
+        entries: n,
+        height,
+        samples,
+        rows,
+    };
+    let s = Search {
+        levels,
+        documents,
+        a,
+        b,
+    };
+    match top_k::greedy::greedy(bytes, s, k, allowance, answers, work) {
+        Ended::Done { listed, openings } => ((openings as u64) << 32) ^ (listed as u64),
+        Ended::Spent { listed, allowance } => {
+            (1 << 63) ^ ((allowance as u64) << 32) ^ (listed as u64)
+        }
+    }
 }
