@@ -27,7 +27,8 @@ PEER(plain)
 
 // An operation of the candidate that is null here is timed for the others alone. To add one: export it in crates/candidate, and name it here.
 OPENED(candidate)
-constexpr Operations candidate = {candidate_open, candidate_write, candidate_read, candidate_access, candidate_rank, candidate_select, candidate_quantile, nullptr, nullptr, nullptr, nullptr};
+extern "C" greedy_fn candidate_greedy;
+constexpr Operations candidate = {candidate_open, candidate_write, candidate_read, candidate_access, candidate_rank, candidate_select, candidate_quantile, nullptr, nullptr, candidate_greedy, nullptr};
 
 namespace {
 typedef std::vector<uint32_t> Numbers;

@@ -6,7 +6,7 @@ set -e
 cd "$(dirname "$0")"
 root=$(cd .. && pwd)
 CXX=${CXX:-$(command -v clang++ || command -v g++)}
-flags="-std=c++17 -O3 -DNDEBUG -Wall -Wextra"
+flags="-std=c++17 -O3 -DNDEBUG -Wall -Wextra -Wno-address"
 mkdir -p build
 
 (cd "$root" && rt staticlib candidate >"$root/bench/build/staticlib.log")
