@@ -1,0 +1,33 @@
+// What the harness asks of a contender: an index of a library, and the operations that it has.
+#pragma once
+#include <stddef.h>
+#include <stdint.h>
+
+struct Library {
+  const uint32_t *entries;
+  size_t n;
+  const uint32_t *lengths;
+  size_t terms;
+  uint32_t documents;
+};
+
+// Each operation takes its own of these.
+struct Query {
+  size_t a, b, x;        // a range or a place, and a document or a rank
+  uint32_t k, allowance; // top-k
+  uint32_t chosen[8];    // conjunction: so many terms
+  size_t size;
+};
+
+enum Op { OPEN, WRITE, READ, ACCESS, RANK, SELECT, QUANTILE, LIST, CONJUNCTION, GREEDY, PROBING, OPS };
+
+// The low 32 bits of a result are compared: a number, or how many pairs of document and count were written.
+typedef uint64_t op_fn(void *index, const Query &q, uint32_t *answers);
+
+struct Contender {
+  const char *name;
+  void *(*build)(const Library &);
+  void (*drop)(void *index);
+  size_t (*bytes)(void *index); // rows and what serves their ranks, without the term table
+  op_fn *ops[OPS];              // null where it has none
+};

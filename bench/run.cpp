@@ -1,0 +1,595 @@
+// The harness: verifies every contender against the scan, then times all of them side by side.
+//   run verify
+//   run time SECONDS CSV OPENINGS [FILTER]
+#include "abi.h"
+#include "contender.h"
+#include <algorithm>
+#include <math.h>
+#include <sched.h>
+#include <stdio.h>
+#include <stdlib.h>
+#include <string.h>
+#include <string>
+#include <time.h>
+#include <vector>
+
+Contender scan_contender();
+extern "C" void sdsl_plain(Contender *), sdsl_popcnt(Contender *);
+
+#define OPENED(p) extern "C" { open_fn p##_open; write_fn p##_write; read_fn p##_read; access_fn p##_access; rank_fn p##_rank; select_fn p##_select; quantile_fn p##_quantile; }
+#define SEARCHED(p) extern "C" { list_fn p##_list; conjunction_fn p##_conjunction; greedy_fn p##_greedy; probing_fn p##_probing; }
+#define PEER(p) OPENED(p) SEARCHED(p) constexpr Operations p = {p##_open, p##_write, p##_read, p##_access, p##_rank, p##_select, p##_quantile, p##_list, p##_conjunction, p##_greedy, p##_probing};
+
+PEER(tight_nopop)
+PEER(plain_nopop)
+PEER(tight)
+PEER(plain)
+
+// An operation of the candidate that is null here is timed for the others alone. To add one: export it in crates/candidate, and name it here.
+OPENED(candidate)
+extern "C" greedy_fn candidate_greedy;
+constexpr Operations candidate = {candidate_open, candidate_write, candidate_read, candidate_access, candidate_rank, candidate_select, candidate_quantile, nullptr, nullptr, candidate_greedy, nullptr};
+
+namespace {
+typedef std::vector<uint32_t> Numbers;
+const uint32_t NO_BOUND = 0xffffffff;
+
+void fail(const char *format, const char *a, const char *b) {
+  fprintf(stderr, format, a, b);
+  fputc('\n', stderr);
+  exit(1);
+}
+
+// ---- contenders on an archive, behind abi.h
+
+struct Archive {
+  uint8_t *bytes, *target;
+  size_t len, n, height, samples, rows, documents, terms;
+  const uint32_t *entries, *lengths;
+  Numbers read_entries, read_lengths, work;
+};
+#define AT(x) x.bytes, x.len, x.n, x.height, x.samples, x.rows
+
+template <const Operations &F> struct Tree {
+  static void *build(const Library &l) {
+    Archive *x = new Archive;
+    x->n = l.n;
+    x->documents = l.documents;
+    x->terms = l.terms;
+    x->entries = l.entries;
+    x->lengths = l.lengths;
+    for (x->height = 0; (size_t)1 << x->height < l.documents;) x->height++;
+    x->samples = 40 + 8 * l.terms;
+    x->rows = x->samples + x->height * 4 * ((l.n + 511) / 512);
+    x->len = x->rows + x->height * ((l.n + 7) / 8);
+    size_t room = (x->len + 63) / 64 * 64;
+    x->bytes = (uint8_t *)aligned_alloc(64, room);
+    x->target = (uint8_t *)aligned_alloc(64, room);
+    x->read_entries.resize(l.n);
+    x->read_lengths.resize(l.terms);
+    x->work.resize(4 * l.documents + 4);
+    if (F.write(l.entries, l.n, l.lengths, l.terms, l.documents, x->bytes, x->len) != x->len) fail("a library was not written", "", "");
+    return x;
+  }
+  static void drop(void *p) {
+    free(((Archive *)p)->bytes);
+    free(((Archive *)p)->target);
+    delete (Archive *)p;
+  }
+  static size_t bytes(void *p) { return ((Archive *)p)->len - ((Archive *)p)->samples; }
+  static uint64_t open(void *p, const Query &, uint32_t *) { return F.open(((Archive *)p)->bytes, ((Archive *)p)->len); }
+  static uint64_t write(void *p, const Query &, uint32_t *) {
+    Archive &x = *(Archive *)p;
+    return F.write(x.entries, x.n, x.lengths, x.terms, (uint32_t)x.documents, x.target, x.len);
+  }
+  static uint64_t read(void *p, const Query &, uint32_t *) {
+    Archive &x = *(Archive *)p;
+    F.read(AT(x), x.documents, x.read_entries.data(), x.n, x.read_lengths.data(), x.terms);
+    return x.read_entries[x.n / 2];
+  }
+  static uint64_t access(void *p, const Query &q, uint32_t *) { Archive &x = *(Archive *)p; return F.access(AT(x), q.a); }
+  static uint64_t rank(void *p, const Query &q, uint32_t *) { Archive &x = *(Archive *)p; return F.rank(AT(x), q.x, q.a); }
+  static uint64_t select(void *p, const Query &q, uint32_t *) { Archive &x = *(Archive *)p; return F.select(AT(x), q.x, q.a); }
+  static uint64_t quantile(void *p, const Query &q, uint32_t *) { Archive &x = *(Archive *)p; return F.quantile(AT(x), q.a, q.b, q.x); }
+  static uint64_t list(void *p, const Query &q, uint32_t *answers) {
+    Archive &x = *(Archive *)p;
+    return F.list(AT(x), x.documents, q.a, q.b, answers, 2 * x.documents);
+  }
+  static uint64_t conjunction(void *p, const Query &q, uint32_t *answers) {
+    Archive &x = *(Archive *)p;
+    return F.conjunction(AT(x), x.documents, x.terms, q.chosen, q.size, answers, 2 * x.documents);
+  }
+  static uint64_t greedy(void *p, const Query &q, uint32_t *answers) {
+    Archive &x = *(Archive *)p;
+    return F.greedy(AT(x), x.documents, q.a, q.b, q.k, q.allowance, answers, 2 * x.documents, x.work.data(), x.work.size());
+  }
+  static uint64_t probing(void *p, const Query &q, uint32_t *answers) {
+    Archive &x = *(Archive *)p;
+    return F.probing(AT(x), x.documents, q.a, q.b, q.k, answers, 2 * x.documents, x.work.data(), x.work.size());
+  }
+  static Contender contender(const char *name) {
+    return {name, build, drop, bytes, {open, write, read, access, rank, select, quantile, F.list ? list : nullptr, F.conjunction ? conjunction : nullptr, F.greedy ? greedy : nullptr, F.probing ? probing : nullptr}};
+  }
+};
+
+bool is_tree(const Contender &c) { return c.ops[OPEN] && c.ops[WRITE]; }
+
+// A reference for opening: every word of the archive read once.
+uint64_t sum_words(void *p, const Query &, uint32_t *) {
+  Archive &x = *(Archive *)p;
+  uint64_t sum = 0, word;
+  for (size_t i = 0; i + 8 <= x.len; i += 8) {
+    memcpy(&word, x.bytes + i, 8);
+    sum += word;
+  }
+  asm volatile("" : : "r"(sum));
+  return 0;
+}
+
+// The first is verified against; the second and third are what ratios are to.
+const size_t SCAN = 0, TIGHT = 1, PLAIN = 2;
+std::vector<Contender> contenders() {
+  std::vector<Contender> all = {scan_contender(), Tree<tight_nopop>::contender("tight nopop"), Tree<plain_nopop>::contender("plain nopop"),
+                                Tree<candidate>::contender("candidate"), Tree<tight>::contender("tight"), Tree<plain>::contender("plain")};
+#ifdef SDSL
+  Contender two[2];
+  sdsl_plain(two);
+  all.insert(all.end(), two, two + 2);
+  sdsl_popcnt(two);
+  all.insert(all.end(), two, two + 2);
+#endif
+  return all;
+}
+
+// ---- data
+
+uint64_t seed = 88172645463325252;
+uint64_t next() {
+  seed ^= seed << 13;
+  seed ^= seed >> 7;
+  seed ^= seed << 17;
+  return seed * 0x2545f4914f6cdd1d;
+}
+uint32_t below(size_t m) { return (uint32_t)((next() >> 32) * m >> 32); }
+
+enum Kind { UNIFORM, SKEWED, EQUAL };
+
+// Skewed: document of rank r with weight 1 / r, the ranks dealt out at random.
+Numbers entries_of(size_t n, uint32_t documents, Kind kind) {
+  Numbers entries(n), dealt(documents);
+  std::vector<double> upto(documents);
+  double sum = 0;
+  for (uint32_t i = 0; i < documents; i++) {
+    dealt[i] = i;
+    upto[i] = sum += 1.0 / (i + 1);
+  }
+  for (uint32_t i = documents; i > 1; i--) std::swap(dealt[i - 1], dealt[below(i)]);
+  for (uint32_t &e : entries) {
+    if (kind == UNIFORM) e = below(documents);
+    else if (kind == EQUAL) e = dealt[0];
+    else {
+      double x = (double)(next() >> 11) / 9007199254740992.0 * sum;
+      e = dealt[std::min<size_t>(documents - 1, (size_t)(std::lower_bound(upto.begin(), upto.end(), x) - upto.begin()))];
+    }
+  }
+  return entries;
+}
+
+// W terms of as even lengths as can be.
+Numbers even_lengths(size_t n, size_t terms) {
+  Numbers lengths(terms);
+  for (size_t t = 0; t < terms; t++) lengths[t] = (uint32_t)((t + 1) * n / terms - t * n / terms);
+  return lengths;
+}
+
+struct Data {
+  Numbers entries, lengths, starts;
+  uint32_t documents;
+  std::vector<void *> indexes;
+  Library library;
+  Data(const std::vector<Contender> &all, Numbers e, Numbers l, uint32_t N) : entries(e), lengths(l), starts(1, 0), documents(N) {
+    library = {entries.data(), entries.size(), lengths.data(), lengths.size(), N};
+    for (uint32_t size : lengths) starts.push_back(starts.back() + size);
+    for (const Contender &c : all) indexes.push_back(c.build(library));
+  }
+  void drop(const std::vector<Contender> &all) {
+    for (size_t c = 0; c < all.size(); c++) all[c].drop(indexes[c]);
+  }
+};
+
+// ---- verification
+
+const char *NAMES[OPS] = {"open", "write", "read", "access", "rank", "select", "quantile", "list", "conjunction", "greedy", "probing"};
+size_t comparisons = 0;
+
+void expect(bool right, const Contender &c, const char *what) {
+  comparisons++;
+  if (!right) fail("%s: wrong %s", c.name, what);
+}
+
+// Nodes of two or more numbers that a front part with the last pair d, c needs, by the definition in docs/FORMAT.md.
+uint64_t need_of(const Data &data, const Query &q, uint32_t d, uint32_t c) {
+  uint32_t height = 0, needed = 0;
+  while (1u << height < data.documents) height++;
+  for (uint32_t j = 0; j < height; j++) {
+    Numbers counts(1u << j);
+    for (size_t i = q.a; i < q.b; i++) counts[data.entries[i] >> (height - j)]++;
+    for (uint32_t v = 0; v < counts.size(); v++) needed += counts[v] > c || (counts[v] == c && v << (height - j) <= d);
+  }
+  return needed;
+}
+
+// What greedy top-k answers, from the full list.
+uint64_t greedy_answer(const Data &data, const Query &q, const uint32_t *full, size_t size) {
+  for (size_t m = size;; m--) {
+    uint64_t need = m ? need_of(data, q, full[2 * m - 2], full[2 * m - 1]) : 0;
+    if (need <= q.allowance) return m == size ? need << 32 | m : (uint64_t)1 << 63 | (uint64_t)q.allowance << 32 | m;
+  }
+}
+
+Query random_query(const Data &data, Op op, size_t turn) {
+  size_t n = data.entries.size();
+  Query q = Query();
+  q.k = turn % 5 == 0 ? data.documents : below(std::min<uint32_t>(data.documents, 120) + 1);
+  q.allowance = NO_BOUND;
+  if (op == ACCESS) q.a = below(n);
+  if (op == RANK || op == SELECT) {
+    q.x = turn % 3 ? data.entries[below(n)] : below(data.documents);
+    q.a = turn == 0 ? n : below(n + 1);
+    if (op == SELECT) q.a = 1 + below(turn % 2 ? 40 : n);
+  }
+  if (op == CONJUNCTION) {
+    q.size = 1 + below(8);
+    for (size_t i = 0; i < q.size; i++) q.chosen[i] = below(data.lengths.size());
+  }
+  if (op == QUANTILE || op == LIST || op == GREEDY || op == PROBING) {
+    q.a = turn % 4 ? below(n) : 0;
+    q.b = turn % 4 == 0 ? n : turn % 4 == 1 ? std::min<size_t>(n, q.a + 1 + below(20)) : q.a + 1 + below(n - q.a);
+    if (op != QUANTILE && turn % 16 == 7) q.b = q.a;
+    q.x = below(q.b - q.a);
+  }
+  return q;
+}
+
+void verify_op(const std::vector<Contender> &all, const Data &data, Op op, size_t turn) {
+  Query q = random_query(data, op, turn);
+  Numbers right(2 * data.documents + 2), got(2 * data.documents + 2);
+  uint64_t expected = all[SCAN].ops[op](data.indexes[SCAN], q, right.data());
+  for (size_t c = 1; c < all.size(); c++) {
+    if (!all[c].ops[op]) continue;
+    uint64_t r = all[c].ops[op](data.indexes[c], q, got.data());
+    expect((uint32_t)r == (uint32_t)expected, all[c], NAMES[op]);
+    if (op >= LIST) expect(std::equal(right.begin(), right.begin() + 2 * (uint32_t)expected, got.begin()), all[c], NAMES[op]);
+  }
+  if (op != GREEDY || turn % 2) return;
+  Query bounded = q;
+  bounded.allowance = turn % 4 ? below(60) : NO_BOUND;
+  uint64_t answer = greedy_answer(data, bounded, right.data(), (size_t)expected);
+  for (size_t c = 1; c < all.size(); c++) {
+    if (!all[c].ops[op] || !is_tree(all[c])) continue;
+    expect(all[c].ops[op](data.indexes[c], bounded, got.data()) == answer, all[c], "greedy with an allowance");
+    expect(std::equal(got.begin(), got.begin() + 2 * (uint32_t)answer, right.begin()), all[c], "greedy with an allowance");
+    const Numbers &work = ((Archive *)data.indexes[c])->work;
+    expect(std::count(work.begin(), work.begin() + 4 * data.documents, 0u) == 4 * (long)data.documents, all[c], "work slice after greedy");
+  }
+}
+
+// The archives are the same bytes, give the library back, and with a bit or a byte changed each contender refuses them by the same number.
+void verify_archives(const std::vector<Contender> &all, const Data &data) {
+  Archive &first = *(Archive *)data.indexes[TIGHT];
+  size_t at = below(first.len);
+  uint8_t change = (uint8_t)(1 + below(255));
+  uint64_t refusal = 0;
+  for (size_t c = TIGHT; c < all.size(); c++) {
+    if (!is_tree(all[c])) continue;
+    Archive &x = *(Archive *)data.indexes[c];
+    Query q = Query();
+    expect(x.len == first.len && !memcmp(x.bytes, first.bytes, x.len), all[c], "archive");
+    expect(all[c].ops[OPEN](&x, q, nullptr) == 0, all[c], "open");
+    all[c].ops[READ](&x, q, nullptr);
+    expect(x.read_entries == data.entries && x.read_lengths == data.lengths, all[c], "read");
+    x.bytes[at] ^= change;
+    uint64_t r = all[c].ops[OPEN](&x, q, nullptr);
+    if (c == TIGHT) refusal = r;
+    expect(r == refusal, all[c], "open of a changed archive");
+    x.bytes[at] ^= change;
+  }
+}
+
+void verify_one(const std::vector<Contender> &all, size_t n, uint32_t documents, size_t terms, Kind kind, size_t turns) {
+  Data data(all, entries_of(n, documents, kind), even_lengths(n, terms), documents);
+  for (size_t turn = 0; turn < turns; turn++) {
+    verify_archives(all, data);
+    for (int op = ACCESS; op < OPS; op++) verify_op(all, data, (Op)op, turn);
+  }
+  data.drop(all);
+}
+
+// The small library of docs/FORMAT.md, byte by byte.
+void verify_small(const std::vector<Contender> &all) {
+  const uint8_t bytes[74] = {1, 0, 0, 0, 8, 0, 0, 0, 4, 0, 0, 0, 3, 0, 0, 0, 40, 0, 0, 0, 24, 0, 0, 0, 64, 0, 0, 0, 8, 0, 0, 0, 72, 0, 0, 0, 2,
+                             0, 0, 0, 0, 0, 0, 0, 3, 0, 0, 0, 3, 0, 0, 0, 0, 0, 0, 0, 3, 0, 0, 0, 5, 0, 0, 0, 0, 0, 0, 0, 0, 0, 0, 0, 0x59, 0xb5};
+  Data data(all, {3, 1, 0, 3, 2, 1, 3, 0}, {3, 0, 5}, 4);
+  for (size_t c = TIGHT; c < all.size(); c++)
+    if (is_tree(all[c])) expect(((Archive *)data.indexes[c])->len == 74 && !memcmp(((Archive *)data.indexes[c])->bytes, bytes, 74), all[c], "small library");
+  for (size_t turn = 0; turn < 200; turn++)
+    for (int op = ACCESS; op < OPS; op++) verify_op(all, data, (Op)op, turn);
+  data.drop(all);
+}
+
+void verify(const std::vector<Contender> &all) {
+  verify_small(all);
+  for (size_t n : {1, 2, 63, 64, 65, 511, 512, 513, 1000, 1024, 1025, 4096, 5000})
+    for (uint32_t documents : {1, 2, 3, 7, 64, 100, 1000, 4096})
+      for (Kind kind : {UNIFORM, SKEWED, EQUAL}) verify_one(all, n, documents, 1 + below(40), kind, 12);
+  for (int turn = 0; turn < 60; turn++) verify_one(all, 1 + below(3000), 1 + below(below(2) ? 4096 : 60), 1 + below(200), turn % 2 ? SKEWED : UNIFORM, 16);
+  for (Kind kind : {UNIFORM, SKEWED}) {
+    verify_one(all, 65535, 4096, 4096, kind, 32);
+    verify_one(all, 65535, 4096, 16, kind, 16);
+    verify_one(all, 65024, 4000, 100, kind, 16);
+  }
+  printf("verified: %zu comparisons, %zu contenders\n", comparisons, all.size());
+}
+
+// ---- timing
+
+double now() {
+  timespec t;
+  clock_gettime(CLOCK_MONOTONIC, &t);
+  return (double)t.tv_sec * 1e9 + (double)t.tv_nsec;
+}
+
+double at_part(std::vector<double> v, double part) {
+  std::sort(v.begin(), v.end());
+  return v[(size_t)(part * (double)(v.size() - 1))];
+}
+double median(const std::vector<double> &v) { return at_part(v, 0.5); }
+
+uint64_t __attribute__((noinline)) batch(op_fn *f, void *index, const Query *q, size_t count, bool pairs, uint32_t *answers) {
+  uint64_t sum = 0;
+  for (size_t i = 0; i < count; i++) {
+    uint32_t r = (uint32_t)f(index, q[i], answers);
+    sum += r;
+    if (pairs && r) sum += answers[2 * r - 1] + 3 * (uint64_t)answers[r / 2 * 2];
+  }
+  return sum;
+}
+
+const size_t QUERIES = 2048, PASSES = 3;
+
+// One operation on one set of queries, for every contender that has it. The rounds of a cell are spread over the passes of the whole run.
+struct Cell {
+  std::string data, name, range;
+  Op op;
+  uint32_t k;
+  double bytes; // read once by the operation, or 0
+  std::vector<Contender> all;
+  std::vector<void *> indexes;
+  std::vector<Query> queries;
+  size_t count, rounds;
+  std::vector<size_t> warm;
+  std::vector<std::vector<double>> times;
+  Numbers answers;
+
+  double one(size_t c, const Query *q, size_t size, uint64_t *sum) {
+    double start = now();
+    *sum = batch(all[c].ops[op], indexes[c], q, size, op >= LIST, answers.data());
+    return now() - start;
+  }
+
+  // So many queries that the tight peer takes about 0.4 ms, unless another takes very long; and so many rounds that the time is used up.
+  void plan(double seconds) {
+    answers.resize(2 * 4096 + 2);
+    times.assign(all.size(), {});
+    uint64_t sum = 0, first = 0;
+    for (count = 1; 2 * count <= queries.size(); count *= 2) {
+      double longest = 0, reference = one(TIGHT, queries.data(), count, &sum);
+      for (size_t c = 0; c < all.size(); c++)
+        if (all[c].ops[op]) longest = std::max(longest, one(c, queries.data(), count, &sum));
+      if (reference >= 0.4e6 || longest >= 10e6) break;
+    }
+    double round = 0;
+    for (size_t c = 0; c < all.size(); c++) {
+      warm.push_back(0);
+      if (!all[c].ops[op]) continue;
+      double time = one(c, queries.data(), count, &sum);
+      if (round == 0) first = sum;
+      if (sum != first) fail("%s: %s differs", all[c].name, name.c_str());
+      warm[c] = std::min<size_t>(count, (size_t)(1e5 / (time / (double)count)));
+      round += time * (1 + (double)warm[c] / (double)count);
+    }
+    rounds = (size_t)std::max(4.0, std::min(101.0, seconds * 1e9 / PASSES / round));
+  }
+
+  void pass() {
+    uint64_t sum;
+    for (size_t r = 0; r < rounds; r++)
+      for (size_t i = 0; i < all.size(); i++) {
+        size_t c = (i + 3 * r) % all.size();
+        if (!all[c].ops[op]) continue;
+        if (warm[c]) one(c, queries.data() + count - warm[c], warm[c], &sum);
+        times[c].push_back(one(c, queries.data(), count, &sum) / (double)count);
+      }
+  }
+
+  std::vector<double> ratios(size_t c, size_t to) const {
+    std::vector<double> v;
+    for (size_t r = 0; r < times[c].size(); r++) v.push_back(times[c][r] / times[to][r]);
+    return v;
+  }
+};
+
+const char *RANGES[3] = {"all", "1/16", "term"};
+const size_t ENTRIES = 65535;
+const uint32_t DOCUMENTS = 4096;
+
+struct Set {
+  std::string name;
+  Data *terms;   // 4,096 terms of 16 entries
+  Data *volumes; // 16 terms of a sixteenth
+  std::vector<Cell> cells;
+};
+
+Query range_query(const Data &data, int range) {
+  size_t n = data.entries.size();
+  Query q = Query();
+  q.allowance = NO_BOUND;
+  q.b = n;
+  if (range == 1) {
+    q.a = below(n - n / 16);
+    q.b = q.a + n / 16;
+  } else if (range == 2) {
+    uint32_t t = below(data.lengths.size());
+    q.a = data.starts[t];
+    q.b = data.starts[t + 1];
+  }
+  return q;
+}
+
+template <class Make> void add(Set &set, const std::vector<Contender> &all, const char *filter, double seconds, Op op, int range, uint32_t k, size_t size, Make make) {
+  const Data &data = op == CONJUNCTION && range == 1 ? *set.volumes : *set.terms;
+  std::string name = NAMES[op];
+  if (size) name += " of " + std::to_string(size);
+  if (range >= 0) name += std::string(" ") + RANGES[range];
+  if (k) name += " k=" + std::to_string(k);
+  if (filter && (set.name + " " + name).find(filter) == std::string::npos) return;
+  Cell c;
+  c.data = set.name;
+  c.name = name;
+  c.range = range >= 0 ? RANGES[range] : "";
+  c.op = op;
+  c.k = k;
+  c.bytes = op == OPEN ? (double)((Archive *)data.indexes[TIGHT])->len : 0;
+  c.all = all;
+  c.indexes = data.indexes;
+  if (op == OPEN) {
+    Contender words = {"sum of words", nullptr, nullptr, nullptr, {sum_words}};
+    c.all.push_back(words);
+    c.indexes.push_back(data.indexes[TIGHT]);
+  }
+  for (size_t i = 0; i < QUERIES; i++) c.queries.push_back(make(data));
+  c.plan(seconds);
+  set.cells.push_back(c);
+}
+
+void add_cells(Set &set, const std::vector<Contender> &all, const char *filter, double seconds) {
+  auto cell = [&](Op op, int range, uint32_t k, size_t size, auto make) { add(set, all, filter, seconds, op, range, k, size, make); };
+  auto none = [](const Data &) { return Query(); };
+  cell(OPEN, -1, 0, 0, none);
+  cell(WRITE, -1, 0, 0, none);
+  cell(READ, -1, 0, 0, none);
+  cell(ACCESS, -1, 0, 0, [](const Data &d) { Query q = Query(); q.a = below(d.entries.size()); return q; });
+  cell(RANK, -1, 0, 0, [](const Data &d) { Query q = Query(); q.x = d.entries[below(d.entries.size())]; q.a = below(d.entries.size() + 1); return q; });
+  // The occurrence is there: as many as before a random place, and one more that may be at it.
+  cell(SELECT, -1, 0, 0, [](const Data &d) {
+    Query q = Query();
+    size_t place = below(d.entries.size());
+    q.x = d.entries[place];
+    q.a = (size_t)std::count(d.entries.begin(), d.entries.begin() + (long)place + 1, (uint32_t)q.x);
+    return q;
+  });
+  for (int range = 0; range < 3; range++)
+    cell(QUANTILE, range, 0, 0, [=](const Data &d) { Query q = range_query(d, range); q.x = below(q.b - q.a); return q; });
+  for (int range = 0; range < 3; range++)
+    cell(LIST, range, 0, 0, [=](const Data &d) { return range_query(d, range); });
+  for (int range = 1; range < 3; range++)
+    for (size_t size : {2, 4, 8})
+      cell(CONJUNCTION, range, 0, size, [=](const Data &d) {
+        Query q = Query();
+        q.size = size;
+        for (size_t i = 0; i < size; i++) q.chosen[i] = below(d.lengths.size());
+        return q;
+      });
+  for (Op op : {GREEDY, PROBING})
+    for (int range = 0; range < 3; range++)
+      for (uint32_t k : {10u, 100u, DOCUMENTS})
+        cell(op, range, k, 0, [=](const Data &d) { Query q = range_query(d, range); q.k = k; return q; });
+}
+
+void print_set(const Set &set, const std::vector<Contender> &all) {
+  printf("\n## %s: n = %zu, N = %u\n\nns an operation, then the ratio to %s and to %s (medians; below 1 is faster)\n\n| |", set.name.c_str(), ENTRIES, DOCUMENTS, all[TIGHT].name, all[PLAIN].name);
+  for (const Contender &c : all) printf(" %s |", c.name);
+  printf("\n|---|");
+  for (size_t c = 0; c < all.size(); c++) printf("--:|");
+  printf("\n| bytes of the index |");
+  for (size_t c = 0; c < all.size(); c++) printf(" %zu |", all[c].bytes(set.terms->indexes[c]));
+  for (const Cell &cell : set.cells) {
+    printf("\n| %s |", cell.name.c_str());
+    for (size_t c = 0; c < all.size(); c++)
+      if (cell.times[c].empty()) printf(" |");
+      else printf(" %.*f (%.2f, %.2f) |", median(cell.times[c]) < 100 ? 1 : 0, median(cell.times[c]), median(cell.ratios(c, TIGHT)), median(cell.ratios(c, PLAIN)));
+  }
+  printf("\n");
+  for (const Cell &cell : set.cells)
+    if (cell.bytes > 0)
+      for (size_t c = 0; c < cell.all.size(); c++)
+        if (!cell.times[c].empty()) printf("%s %s, %.0f bytes: %.1f GB/s\n", cell.name.c_str(), cell.all[c].name, cell.bytes, cell.bytes / median(cell.times[c]));
+}
+
+void write_csv(const std::vector<Set> &sets, const char *path) {
+  FILE *f = fopen(path, "w");
+  if (!f) fail("%s cannot be written%s", path, "");
+  fprintf(f, "data,cell,operation,range,k,contender,index_bytes,rounds,median_ns,p10_ns,p90_ns,ratio_tight_nopop,ratio_plain_nopop,gb_per_s\n");
+  for (const Set &set : sets)
+    for (const Cell &cell : set.cells)
+      for (size_t c = 0; c < cell.all.size(); c++) {
+        const std::vector<double> &t = cell.times[c];
+        if (t.empty()) continue;
+        fprintf(f, "%s,%s,%s,%s,%u,%s,%zu,%zu,%.2f,%.2f,%.2f,%.4f,%.4f,%.2f\n", cell.data.c_str(), cell.name.c_str(), NAMES[cell.op], cell.range.c_str(), cell.k, cell.all[c].name,
+                cell.all[c].bytes ? cell.all[c].bytes(cell.indexes[c]) : 0, t.size(), median(t), at_part(t, 0.1), at_part(t, 0.9), median(cell.ratios(c, TIGHT)), median(cell.ratios(c, PLAIN)),
+                cell.bytes / median(t));
+      }
+  fclose(f);
+}
+
+// How far an allowance leads: the documents named and the openings used, of the whole, for each k.
+void write_openings(const std::vector<Set> &sets, const std::vector<Contender> &all, const char *path) {
+  FILE *f = fopen(path, "w");
+  if (!f) fail("%s cannot be written%s", path, "");
+  fprintf(f, "data,k,allowance,openings,documents,spent\n");
+  Numbers answers(2 * DOCUMENTS);
+  for (const Set &set : sets)
+    for (uint32_t k : {10u, 100u, DOCUMENTS})
+      for (uint32_t allowance = 1; allowance <= 8192; allowance *= 2) {
+        Query q = range_query(*set.terms, 0);
+        q.k = k;
+        q.allowance = allowance;
+        uint64_t r = all[TIGHT].ops[GREEDY](set.terms->indexes[TIGHT], q, answers.data());
+        fprintf(f, "%s,%u,%u,%u,%u,%u\n", set.name.c_str(), k, allowance, (uint32_t)(r >> 32) & 0x7fffffff, (uint32_t)r, (uint32_t)(r >> 63));
+      }
+  fclose(f);
+}
+
+void time_all(const std::vector<Contender> &all, double seconds, const char *csv, const char *openings, const char *filter) {
+  std::vector<Set> sets;
+  for (Kind kind : {UNIFORM, SKEWED}) {
+    Numbers entries = entries_of(ENTRIES, DOCUMENTS, kind);
+    sets.push_back({kind == UNIFORM ? "uniform" : "skewed", new Data(all, entries, even_lengths(ENTRIES, 4096), DOCUMENTS), new Data(all, entries, even_lengths(ENTRIES, 16), DOCUMENTS), {}});
+    add_cells(sets.back(), all, filter, seconds);
+  }
+  for (size_t p = 0; p < PASSES; p++)
+    for (Set &set : sets)
+      for (Cell &cell : set.cells) cell.pass();
+  for (const Set &set : sets) print_set(set, all);
+  write_csv(sets, csv);
+  write_openings(sets, all, openings);
+}
+}
+
+int main(int argc, char **argv) {
+  cpu_set_t one;
+  CPU_ZERO(&one);
+  CPU_SET(sched_getcpu(), &one);
+  sched_setaffinity(0, sizeof one, &one);
+  std::vector<Contender> all = contenders();
+  if (argc == 2 && !strcmp(argv[1], "verify")) {
+    verify(all);
+    return 0;
+  }
+  if (argc >= 5 && !strcmp(argv[1], "time")) {
+    time_all(all, atof(argv[2]), argv[3], argv[4], argc > 5 ? argv[5] : nullptr);
+    return 0;
+  }
+  fprintf(stderr, "run verify | run time SECONDS CSV OPENINGS [FILTER]\n");
+  return 2;
+}

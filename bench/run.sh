@@ -1,0 +1,47 @@
+#!/bin/sh
+# bench/run.sh [SECONDS [FILTER]]: builds the proved library and its peers, verifies them against the scan, and times all side by side.
+# SECONDS: for each cell, all contenders together (2). FILTER: only cells with this in "data operation range k", as "skewed greedy".
+# CXX: the compiler, clang++ where it is there. VERIFY_ONLY=1: no timing.
+set -e
+cd "$(dirname "$0")"
+root=$(cd .. && pwd)
+CXX=${CXX:-$(command -v clang++ || command -v g++)}
+flags="-std=c++17 -O3 -DNDEBUG -Wall -Wextra -Wno-address"
+mkdir -p build
+
+(cd "$root" && rt staticlib candidate >"$root/bench/build/staticlib.log")
+objects=
+peer() { # NAME TIGHT FLAGS
+  $CXX $flags -DPEER="$1" -DTIGHT="$2" $3 -c peer.cpp -o "build/$1.o"
+  objects="$objects build/$1.o"
+}
+peer tight_nopop 1
+peer plain_nopop 0
+peer tight 1 -mpopcnt
+peer plain 0 -mpopcnt
+
+# sdsl, without and with the popcount instruction. The two share the names of templates: each becomes one object in which only its entry is seen.
+sdsl=
+library=$($CXX -print-file-name=libsdsl.a)
+if [ -f "$library" ]; then
+  sdsl=-DSDSL
+  for way in plain popcnt; do
+    object=build/sdsl_$way.o
+    if [ ! "$object" -nt sdsl.cpp ] || [ ! "$object" -nt contender.h ]; then
+      suffix=" nopop"
+      more=
+      [ $way = popcnt ] && suffix="" && more=-msse4.2
+      $CXX $flags -w -funroll-loops $more -DSDSL_ENTRY=sdsl_$way "-DSDSL_SUFFIX=\"$suffix\"" -c sdsl.cpp -o build/sdsl_$way.own.o
+      ld -r --force-group-allocation -o build/sdsl_$way.all.o build/sdsl_$way.own.o "$library"
+      objcopy --keep-global-symbol=sdsl_$way build/sdsl_$way.all.o "$object"
+    fi
+    objects="$objects $object"
+  done
+else
+  echo "no libsdsl.a (package libsdsl-dev): sdsl is left out"
+fi
+
+$CXX $flags -c scan.cpp -o build/scan.o
+$CXX $flags $sdsl run.cpp build/scan.o $objects "$root/target/staticlib/libcandidate.a" -o build/run
+build/run verify
+[ -n "$VERIFY_ONLY" ] || build/run time "${1:-2}" build/results.csv build/openings.csv ${2:+"$2"} | tee build/results.md

@@ -1,0 +1,138 @@
+// The plain scan: entries of 16 bits, counted in an array of N counters, or sorted where the range is short.
+// The other contenders are verified against it. Its top-k is one, under greedy and under probing.
+#include "contender.h"
+#include <algorithm>
+#include <functional>
+#include <string.h>
+#include <vector>
+
+namespace {
+struct Scan {
+  std::vector<uint16_t> entries, sorted;
+  std::vector<uint32_t> starts, counts, keys;
+  uint32_t documents;
+};
+
+void *build(const Library &l) {
+  Scan *x = new Scan;
+  x->entries.assign(l.entries, l.entries + l.n);
+  x->documents = l.documents;
+  x->sorted.resize(l.documents);
+  x->counts.resize(l.documents);
+  x->keys.resize(l.documents + 1);
+  x->starts.assign(1, 0);
+  for (size_t t = 0; t < l.terms; t++) x->starts.push_back(x->starts.back() + l.lengths[t]);
+  return x;
+}
+void drop(void *p) { delete (Scan *)p; }
+size_t bytes(void *p) { return 2 * ((Scan *)p)->entries.size(); }
+
+bool is_short(const Scan &x, size_t size) { return size <= x.documents / 16; }
+
+void count(Scan &x, size_t a, size_t b) {
+  uint32_t *counts = x.counts.data();
+  memset(counts, 0, 4 * x.documents);
+  for (size_t i = a; i < b; i++) counts[x.entries[i]]++;
+}
+
+uint64_t access(void *p, const Query &q, uint32_t *) { return ((Scan *)p)->entries[q.a]; }
+
+uint64_t rank(void *p, const Query &q, uint32_t *) {
+  const uint16_t *entries = ((Scan *)p)->entries.data();
+  uint32_t c = 0;
+  for (size_t i = 0; i < q.a; i++) c += entries[i] == (uint16_t)q.x;
+  return c;
+}
+
+uint64_t select(void *p, const Query &q, uint32_t *) {
+  const std::vector<uint16_t> &entries = ((Scan *)p)->entries;
+  size_t j = q.a;
+  for (size_t i = 0; i < entries.size(); i++)
+    if (entries[i] == q.x && --j == 0) return i;
+  return entries.size();
+}
+
+uint64_t quantile(void *p, const Query &q, uint32_t *) {
+  Scan &x = *(Scan *)p;
+  if (is_short(x, q.b - q.a)) {
+    uint16_t *s = x.sorted.data(), *end = std::copy(&x.entries[q.a], &x.entries[q.a] + (q.b - q.a), s);
+    std::nth_element(s, s + q.x, end);
+    uint16_t d = s[q.x];
+    return (uint64_t)std::count(s, end, d) << 16 | d;
+  }
+  count(x, q.a, q.b);
+  size_t d = 0;
+  for (size_t r = q.x; r >= x.counts[d]; d++) r -= x.counts[d];
+  return (uint64_t)x.counts[d] << 16 | d;
+}
+
+size_t list_range(Scan &x, size_t a, size_t b, uint32_t *answers) {
+  size_t found = 0;
+  if (is_short(x, b - a)) {
+    uint16_t *s = x.sorted.data(), *end = std::copy(x.entries.data() + a, x.entries.data() + b, s);
+    std::sort(s, end);
+    while (s < end) {
+      uint16_t *from = s;
+      while (s < end && *s == *from) s++;
+      answers[2 * found] = *from;
+      answers[2 * found++ + 1] = (uint32_t)(s - from);
+    }
+    return found;
+  }
+  count(x, a, b);
+  for (uint32_t d = 0; d < x.documents; d++)
+    if (x.counts[d]) {
+      answers[2 * found] = d;
+      answers[2 * found++ + 1] = x.counts[d];
+    }
+  return found;
+}
+
+uint64_t list(void *p, const Query &q, uint32_t *answers) { return list_range(*(Scan *)p, q.a, q.b, answers); }
+
+// Term by term: the sums of the documents that every term so far has.
+uint64_t conjunction(void *p, const Query &q, uint32_t *answers) {
+  Scan &x = *(Scan *)p;
+  size_t found = list_range(x, x.starts[q.chosen[0]], x.starts[q.chosen[0] + 1], answers);
+  for (size_t t = 1; t < q.size && found; t++) {
+    count(x, x.starts[q.chosen[t]], x.starts[q.chosen[t] + 1]);
+    size_t kept = 0;
+    for (size_t i = 0; i < found; i++) {
+      uint32_t d = answers[2 * i], c = answers[2 * i + 1];
+      if (!x.counts[d]) continue;
+      answers[2 * kept] = d;
+      answers[2 * kept++ + 1] = c + x.counts[d];
+    }
+    found = kept;
+  }
+  return found;
+}
+
+uint64_t top_k(void *p, const Query &q, uint32_t *answers) {
+  Scan &x = *(Scan *)p;
+  uint32_t *keys = x.keys.data();
+  size_t found = 0;
+  if (is_short(x, q.b - q.a)) {
+    found = list_range(x, q.a, q.b, answers);
+    for (size_t i = 0; i < found; i++) keys[i] = answers[2 * i + 1] << 16 | (65535 - answers[2 * i]);
+  } else {
+    count(x, q.a, q.b);
+    for (uint32_t d = 0; d < x.documents; d++) {
+      keys[found] = x.counts[d] << 16 | (65535 - d);
+      found += x.counts[d] != 0;
+    }
+  }
+  size_t k = std::min<size_t>(q.k, found);
+  if (4 * k < found) std::partial_sort(keys, keys + k, keys + found, std::greater<uint32_t>());
+  else std::sort(keys, keys + found, std::greater<uint32_t>());
+  for (size_t i = 0; i < k; i++) {
+    answers[2 * i] = 65535 - (keys[i] & 65535);
+    answers[2 * i + 1] = keys[i] >> 16;
+  }
+  return k;
+}
+}
+
+Contender scan_contender() {
+  return {"scan", build, drop, bytes, {nullptr, nullptr, nullptr, access, rank, select, quantile, list, conjunction, top_k, top_k}};
+}

@@ -1,0 +1,219 @@
+// What bench/ calls: the operations on an archive under C names. A struct does not pass the C border, so the levels of an opened archive
+// pass as numbers: n, the height, the offset of the samples and the offset of the rows.
+use archive::Layout;
+use archive::Opening;
+use archive::Written;
+use bit_rows::Found;
+use top_k::Ended;
+use top_k::Search;
+use wavelet::Levels;
+ghost use Prim.Native.Nat.{_-_, _*_, _^_, _≤_, _<_, min};
+ghost use lib.ListN.{length};
+ghost use Rattle.wavelet.specs.Levels.{Stored};
+ghost use Rattle.archive.specs.Layout.{Opened};
+ghost use Rattle.top_k.specs.Moves.{Searchable};
+
+// 0 for an archive that is accepted, else the number of the refusal.
+#[no_mangle]
+pub extern "C" fn candidate_open(bytes: &[u8]) -> usize {
+    match archive::open(bytes) {
+        Opening::Accepted(_) => 0,
+        Opening::Refused(number) => number as usize,
+    }
+}
+
+// The archive's length, or the number of the refusal: an archive has 48 bytes or more, and a refusal's number is below.
+#[no_mangle]
+pub extern "C" fn candidate_write(
+    entries: &[u32],
+    lengths: &[u32],
+    documents: u32,
+    target: &mut [u8],
+) -> usize {
+    match archive::write(entries, lengths, documents, target) {
+        Written::Length(size) => size,
+        Written::Refused(number) => number as usize,
+    }
+}
+
+#[no_mangle]
+pub extern "C" fn candidate_read(
+    bytes: &[u8],
+    n: usize,
+    height: usize,
+    samples: usize,
+    rows: usize,
+    documents: usize,
+    entries: &mut [u32],
+    lengths: &mut [u32],
+)
+    requires { ⌜ Opened (now bytes) (record { documents = documents; terms = length (now lengths); levels = record { entries = n; height = height; samples = samples; rows = rows } }) ⌝ }
+    requires { ⌜ n ≤ length (now entries) ⌝ }
+{
+    let levels = Levels {
+        entries: n,
+        height,
+        samples,
+        rows,
+    };
+    let terms = lengths.len();
+    archive::read_opened(
+        bytes,
+        Layout {
+            documents,
+            terms,
+            levels,
+        },
+        entries,
+        lengths,
+    );
+}
+
+#[no_mangle]
+pub extern "C" fn candidate_access(
+    bytes: &[u8],
+    n: usize,
+    height: usize,
+    samples: usize,
+    rows: usize,
+    i: usize,
+) -> usize
+    requires { ⌜ Stored (now bytes) (record { entries = n; height = height; samples = samples; rows = rows }) ⌝ }
+    requires { ⌜ i < n ⌝ }
+{
+    wavelet::access(
+        bytes,
+        Levels {
+            entries: n,
+            height,
+            samples,
+            rows,
+        },
+        i,
+    )
+}
+
+#[no_mangle]
+pub extern "C" fn candidate_rank(
+    bytes: &[u8],
+    n: usize,
+    height: usize,
+    samples: usize,
+    rows: usize,
+    d: usize,
+    i: usize,
+) -> usize
+    requires { ⌜ Stored (now bytes) (record { entries = n; height = height; samples = samples; rows = rows }) ⌝ }
+    requires { ⌜ (d < 2 ^ height) × (i ≤ n) ⌝ }
+{
+    wavelet::rank(
+        bytes,
+        Levels {
+            entries: n,
+            height,
+            samples,
+            rows,
+        },
+        d,
+        i,
+    )
+}
+
+// The place of the i-th entry d, i from 1, or n where there is none.
+#[no_mangle]
+pub extern "C" fn candidate_select(
+    bytes: &[u8],
+    n: usize,
+    height: usize,
+    samples: usize,
+    rows: usize,
+    d: usize,
+    i: usize,
+) -> usize
+    requires { ⌜ Stored (now bytes) (record { entries = n; height = height; samples = samples; rows = rows }) ⌝ }
+    requires { ⌜ (d < 2 ^ height) × (0 < i) ⌝ }
+{
+    match wavelet::select(
+        bytes,
+        Levels {
+            entries: n,
+            height,
+            samples,
+            rows,
+        },
+        d,
+        i,
+    ) {
+        Found::At(place) => place,
+        Found::Nothing => n,
+    }
+}
+
+// The count in the bits from 16 on, the document in those below.
+#[no_mangle]
+pub extern "C" fn candidate_quantile(
+    bytes: &[u8],
+    n: usize,
+    height: usize,
+    samples: usize,
+    rows: usize,
+    a: usize,
+    b: usize,
+    r: usize,
+) -> usize
+    requires { ⌜ Stored (now bytes) (record { entries = n; height = height; samples = samples; rows = rows }) ⌝ }
+    requires { ⌜ (a ≤ b) × (b ≤ n) × (r < b - a) ⌝ }
+{
+    let found = wavelet::quantile(
+        bytes,
+        Levels {
+            entries: n,
+            height,
+            samples,
+            rows,
+        },
+        a,
+        b,
+        r,
+    );
+    (found.count << 16) ^ found.document
+}
+
+// The pairs in the bits below 32, the openings from 32 on, and in bit 63 whether the allowance was spent.
+#[no_mangle]
+pub extern "C" fn candidate_greedy(
+    bytes: &[u8],
+    n: usize,
+    height: usize,
+    samples: usize,
+    rows: usize,
+    documents: usize,
+    a: usize,
+    b: usize,
+    k: u32,
+    allowance: u32,
+    answers: &mut [u32],
+    work: &mut [u32],
+) -> u64
+    requires { ⌜ Searchable (now bytes) (record { levels = record { entries = n; height = height; samples = samples; rows = rows }; documents = documents; a = a; b = b }) ⌝ }
+    requires { ⌜ (2 * min k documents ≤ length (now answers)) × (4 * documents ≤ length (now work)) ⌝ }
+{
+    let levels = Levels {
+        entries: n,
+        height,
+        samples,
+        rows,
+    };
+    let s = Search {
+        levels,
+        documents,
+        a,
+        b,
+    };
+    match top_k::greedy::greedy(bytes, s, k, allowance, answers, work) {
+        Ended::Done { listed, openings } => ((openings as u64) << 32) ^ (listed as u64),
+        Ended::Spent { listed, allowance } => {
+            (1 << 63) ^ ((allowance as u64) << 32) ^ (listed as u64)
+        }
+    }
+}
