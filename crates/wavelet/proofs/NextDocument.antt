@@ -22,9 +22,9 @@ use Rattle.wavelet.specs.Ranges.{firstIn, nextOf}
 -- ---- the first number of a run that passes a test
 
 module _ (p : ℕ → Bool) where
-  keep-none : (v n : ℕ) → ((w : ℕ) → v ≤ w → p w ≡ false) → keep p (upFrom v n) ≡ []
+  pub keep-none : (v n : ℕ) → ((w : ℕ) → v ≤ w → w < v + n → p w ≡ false) → keep p (upFrom v n) ≡ []
   keep-none v zero f = refl
-  keep-none v (suc n) f = rw (f v (le-refl v)) (keep-none (suc v) n (λ w l. f w (le-of-lt l)))
+  keep-none v (suc n) f = rw (f v (le-refl v) (omega arith)) (keep-none (suc v) n (λ w l m. f w (le-of-lt l) (omega arith)))
 
   first-kept : (xs : List ℕ) (d v n : ℕ) → v ≤ d → d < v + n → p d ≡ true → ((w : ℕ) → v ≤ w → w < d → p w ≡ false)
       → firstIn xs (keep p (upFrom v n)) ≡ Document d (occurrences d xs)
@@ -40,7 +40,7 @@ module _ (p : ℕ → Bool) where
 -- ---- the next document
 
 -- what occurs among numbers below n is below n
-occurs-lt : (n d : ℕ) (xs : List ℕ) → Within n xs → 0 < occurrences d xs → d < n
+pub occurs-lt : (n d : ℕ) (xs : List ℕ) → Within n xs → 0 < occurrences d xs → d < n
 occurs-lt n d xs w o = go (decLe n d)
   where
     go : Dec (n ≤ d) → d < n
@@ -67,4 +67,4 @@ module _ (h v : ℕ) (xs : List ℕ) where
   pub next-nothing : length xs ≤ tally (λ x. ltb x v) xs → nextOf h v xs ≡ Nothing
   next-nothing l =
       ap (firstIn xs)
-      (keep-none (λ x. ltb 0 (occurrences x xs)) v (2 ^ h - v) (λ x a. le-ltb 0 (occurrences x xs) (omega (arith, next-none v xs l x a))))
+      (keep-none (λ x. ltb 0 (occurrences x xs)) v (2 ^ h - v) (λ x a b. le-ltb 0 (occurrences x xs) (omega (arith, next-none v xs l x a))))

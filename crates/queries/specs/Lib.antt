@@ -1,0 +1,5 @@
+-- What the contracts of queries cite, beside the definitions of model.
+pub mod Answers
+pub mod Written
+pub mod Listing
+pub mod Conjunction

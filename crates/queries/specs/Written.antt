@@ -1,0 +1,12 @@
+-- What functions that write pairs leave.
+use Prim.Native.Nat.{ℕ, _+_, _*_}
+use mathlib.Core.Path.{_≡_}
+use mathlib.Core.List.{List}
+use lib.ListN.{length}
+use lib.Seq.{sets}
+use Rattle.model.specs.Queries.{Pair, flat}
+
+-- these pairs stand in the slice from pair number `at` on, the rest is as before, and the next pair is number r
+pub record Written (ps : List Pair) (at : ℕ) (before after : List ℕ) (r : ℕ) : Type 0 where
+  pub next : r ≡ at + length ps
+  pub stored : after ≡ sets before (2 * at) (flat ps)
