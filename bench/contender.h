@@ -15,8 +15,8 @@ struct Library {
 struct Query {
   size_t a, b, x;        // a range or a place, and a document or a rank
   uint32_t k, allowance; // top-k
-  uint32_t chosen[8];    // conjunction: so many terms
-  size_t size;
+  uint32_t chosen[8];    // conjunction: the first `size` are the terms
+  uint32_t size;
 };
 
 enum Op { OPEN, WRITE, READ, ACCESS, RANK, SELECT, QUANTILE, LIST, CONJUNCTION, GREEDY, PROBING, OPS };

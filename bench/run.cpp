@@ -27,8 +27,8 @@ PEER(plain)
 
 // An operation of the candidate that is null here is timed for the others alone. To add one: export it in crates/candidate, and name it here.
 OPENED(candidate)
-extern "C" greedy_fn candidate_greedy;
-constexpr Operations candidate = {candidate_open, candidate_write, candidate_read, candidate_access, candidate_rank, candidate_select, candidate_quantile, nullptr, nullptr, candidate_greedy, nullptr};
+extern "C" { conjunction_fn candidate_conjunction; greedy_fn candidate_greedy; }
+constexpr Operations candidate = {candidate_open, candidate_write, candidate_read, candidate_access, candidate_rank, candidate_select, candidate_quantile, nullptr, candidate_conjunction, candidate_greedy, nullptr};
 
 namespace {
 typedef std::vector<uint32_t> Numbers;
@@ -446,7 +446,7 @@ Query range_query(const Data &data, int range) {
   return q;
 }
 
-template <class Make> void add(Set &set, const std::vector<Contender> &all, const char *filter, double seconds, Op op, int range, uint32_t k, size_t size, Make make) {
+template <class Make> void add(Set &set, const std::vector<Contender> &all, const char *filter, double seconds, Op op, int range, uint32_t k, uint32_t size, Make make) {
   const Data &data = op == CONJUNCTION && range == 1 ? *set.volumes : *set.terms;
   std::string name = NAMES[op];
   if (size) name += " of " + std::to_string(size);
@@ -473,7 +473,7 @@ template <class Make> void add(Set &set, const std::vector<Contender> &all, cons
 }
 
 void add_cells(Set &set, const std::vector<Contender> &all, const char *filter, double seconds) {
-  auto cell = [&](Op op, int range, uint32_t k, size_t size, auto make) { add(set, all, filter, seconds, op, range, k, size, make); };
+  auto cell = [&](Op op, int range, uint32_t k, uint32_t size, auto make) { add(set, all, filter, seconds, op, range, k, size, make); };
   auto none = [](const Data &) { return Query(); };
   cell(OPEN, -1, 0, 0, none);
   cell(WRITE, -1, 0, 0, none);
@@ -493,7 +493,7 @@ void add_cells(Set &set, const std::vector<Contender> &all, const char *filter, 
   for (int range = 0; range < 3; range++)
     cell(LIST, range, 0, 0, [=](const Data &d) { return range_query(d, range); });
   for (int range = 1; range < 3; range++)
-    for (size_t size : {2, 4, 8})
+    for (uint32_t size : {2, 4, 8})
       cell(CONJUNCTION, range, 0, size, [=](const Data &d) {
         Query q = Query();
         q.size = size;

@@ -9,7 +9,7 @@ CXX=${CXX:-$(command -v clang++ || command -v g++)}
 flags="-std=c++17 -O3 -DNDEBUG -Wall -Wextra -Wno-address"
 mkdir -p build
 
-(cd "$root" && rt staticlib candidate >"$root/bench/build/staticlib.log")
+(cd "$root" && rt staticlib candidate) >build/staticlib.log 2>&1 || { tail build/staticlib.log; exit 1; }
 objects=
 peer() { # NAME TIGHT FLAGS
   $CXX $flags -DPEER="$1" -DTIGHT="$2" $3 -c peer.cpp -o "build/$1.o"

@@ -4,6 +4,7 @@ use archive::Layout;
 use archive::Opening;
 use archive::Written;
 use bit_rows::Found;
+use queries::Terms;
 use top_k::Ended;
 use top_k::Search;
 use wavelet::Levels;
@@ -12,6 +13,7 @@ ghost use lib.ListN.{length};
 ghost use Rattle.wavelet.specs.Levels.{Stored};
 ghost use Rattle.archive.specs.Layout.{Opened};
 ghost use Rattle.top_k.specs.Moves.{Searchable};
+ghost use Rattle.queries.specs.Conjunction.{Asked};
 
 // 0 for an archive that is accepted, else the number of the refusal.
 #[no_mangle]
@@ -177,6 +179,46 @@ pub extern "C" fn candidate_quantile(
         r,
     );
     (found.count << 16) ^ found.document
+}
+
+// The first `size` of the numbers are the terms.
+#[no_mangle]
+pub extern "C" fn candidate_conjunction(
+    bytes: &[u8],
+    n: usize,
+    height: usize,
+    samples: usize,
+    rows: usize,
+    documents: usize,
+    terms: usize,
+    numbers: &[u32; 8],
+    size: u32,
+    answers: &mut [u32],
+) -> usize
+    requires { ⌜ Opened (now bytes) (record { documents = documents; terms = terms; levels = record { entries = n; height = height; samples = samples; rows = rows } }) ⌝ }
+    requires { ⌜ Asked terms (record { numbers = now numbers; size = size }) × (2 * documents ≤ length (now answers)) ⌝ }
+{
+    let levels = Levels {
+        entries: n,
+        height,
+        samples,
+        rows,
+    };
+    let l = Layout {
+        documents,
+        terms,
+        levels,
+    };
+    let chosen = *numbers;
+    queries::conjunction_in(
+        bytes,
+        l,
+        Terms {
+            numbers: chosen,
+            size,
+        },
+        answers,
+    )
 }
 
 // The pairs in the bits below 32, the openings from 32 on, and in bit 63 whether the allowance was spent.
