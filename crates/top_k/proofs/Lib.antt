@@ -11,3 +11,4 @@ pub mod Advances
 pub mod Course
 pub mod Searching
 pub mod Demand3
+pub mod Asking
