@@ -14,3 +14,4 @@ pub mod Leveling
 pub mod Numbers
 pub mod Overwrite
 pub mod Refusals
+pub mod RangeEnds

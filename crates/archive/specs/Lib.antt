@@ -4,3 +4,4 @@ pub mod Opening
 pub mod Keys
 pub mod Writing
 pub mod Reading
+pub mod Ranges

@@ -5,6 +5,7 @@ mod check;
 mod keys;
 mod offsets;
 mod put;
+mod ranges;
 mod reader;
 mod terms;
 mod writer;
@@ -12,6 +13,8 @@ mod writer;
 pub use check::open;
 pub use offsets::archive_length;
 pub use offsets::layout_of;
+pub use ranges::entry_range;
+pub use ranges::term_range;
 pub use reader::read;
 pub use reader::read_opened;
 pub use terms::term_start;
@@ -43,5 +46,11 @@ pub enum Reading {
         documents: usize,
         terms: usize,
     },
+    Refused(u32),
+}
+
+// A range: the entries from one place up to but without another, or the number of a refusal.
+pub enum Range {
+    Entries { from: u32, to: u32 },
     Refused(u32),
 }

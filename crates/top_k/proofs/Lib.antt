@@ -10,5 +10,5 @@ pub mod Listed
 pub mod Advances
 pub mod Course
 pub mod Searching
-pub mod Callers
 pub mod Demand3
+pub mod Asking

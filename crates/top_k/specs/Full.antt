@@ -1,11 +1,10 @@
 -- The result that probing promises: the full list, and how many pairs it has.
 use Prim.Native.Nat.{ℕ}
 use mathlib.Core.List.{List}
-use lib.ListN.{length}
 use Rattle.model.specs.Outcome.{answered}
-use Rattle.model.specs.TopK.{fullList, Found, SearchResult}
+use Rattle.model.specs.TopK.{Found, SearchResult}
 use Rattle.top_k.specs.declared.Search.{Search}
-use Rattle.top_k.specs.Searchable.{rangeOf}
+use Rattle.top_k.specs.Asked.{entriesOf, probingOf}
 
 -- the answer, with the final content of the lent slices
 abbrev pub listedIs : ℕ → List ℕ → List ℕ → SearchResult ℕ
@@ -13,6 +12,4 @@ listedIs n answers work = record { outcome = answered n; answers = answers; work
 
 -- what is to be found: as `probingResult` has it for an accepted question
 abbrev pub fullIn : List ℕ → Search → ℕ → Found ℕ
-fullIn bytes s k =
-    let full = fullList (s .documents) k (rangeOf bytes s) in
-    record { documents = s .documents; pairs = full; answer = length full }
+fullIn bytes s k = probingOf k (entriesOf bytes s)

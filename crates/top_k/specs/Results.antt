@@ -8,8 +8,7 @@ use lib.Dec.{ltb}
 use Rattle.frontier.specs.declared.Record.{Record}
 use Rattle.frontier.specs.Heap.{queue, Heap}
 use Rattle.model.specs.Outcome.{answered}
-use Rattle.model.specs.Rows.{height}
-use Rattle.model.specs.TopK.{doneWith, spentWith, endedOf, pairsOf, topK, Found, SearchResult}
+use Rattle.model.specs.TopK.{doneWith, spentWith, Found, SearchResult}
 use Rattle.model.specs.TopK as model
 use Rattle.model.specs.Search.{Move, names, opens, findsSpent}
 use Rattle.model.specs.Search as search
@@ -17,8 +16,9 @@ use Rattle.top_k.specs.declared.Search.{Search}
 use Rattle.top_k.specs.declared.Ended.{Ended}
 use Rattle.top_k.specs.declared.Ended.the-variants.{Done, Spent}
 use Rattle.top_k.specs.declared.greedy.Progress.{Progress}
+use Rattle.top_k.specs.Asked.{entriesOf, greedyOf}
 use Rattle.top_k.specs.Records.{packed}
-use Rattle.top_k.specs.Moves.{rangeOf, frontierIn, nextMove, Moves}
+use Rattle.top_k.specs.Moves.{frontierIn, nextMove, Moves}
 
 -- ---- how it begins
 
@@ -84,11 +84,6 @@ endedBy p allowance = cond (p .spent) (spentWith (p .listed) allowance) (doneWit
 abbrev pub resultIs : Ended → List ℕ → List ℕ → SearchResult model.Ended
 resultIs r answers work = record { outcome = answered (endedIs r); answers = answers; work = work }
 
--- what is found in the entries xs of N documents, as `greedyResult` has it for an accepted question
-abbrev pub foundOf : ℕ → List ℕ → ℕ → ℕ → Found model.Ended
-foundOf N xs k allowance =
-    let answer = topK (height N) N xs k allowance in
-    record { documents = N; pairs = pairsOf answer; answer = endedOf answer }
-
+-- what is to be found: as `greedyResult` has it for an accepted question
 abbrev pub foundIn : List ℕ → Search → ℕ → ℕ → Found model.Ended
-foundIn bytes s k allowance = foundOf (s .documents) (rangeOf bytes s) k allowance
+foundIn bytes s k allowance = greedyOf k allowance (entriesOf bytes s)

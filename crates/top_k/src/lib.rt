@@ -3,10 +3,16 @@ mod candidates;
 mod clear;
 pub mod greedy;
 mod node;
+mod operations;
 pub mod probing;
+mod question;
 mod rounds;
 pub mod step;
 
+pub use operations::greedy_entries;
+pub use operations::greedy_terms;
+pub use operations::probing_entries;
+pub use operations::probing_terms;
 use wavelet::Levels;
 
 // What is searched: the levels of a tree over N documents, and in it the entries a up to but without b.
@@ -34,4 +40,23 @@ pub struct Moved {
 pub enum Ended {
     Done { listed: u32, openings: u32 },
     Spent { listed: u32, allowance: u32 },
+}
+
+// A question before the search: what is searched, or the number of a refusal.
+pub enum Query {
+    Over(Search),
+    Refused(u32),
+}
+
+// The greedy answer: so many pairs listed, and the openings needed or the allowance; or the number of a refusal.
+pub enum TopK {
+    Done { listed: u32, openings: u32 },
+    Spent { listed: u32, allowance: u32 },
+    Refused(u32),
+}
+
+// Probing's answer: so many pairs listed, or the number of a refusal.
+pub enum Probed {
+    Pairs(u32),
+    Refused(u32),
 }

@@ -1,0 +1,122 @@
+// Top-k of an archive: the greedy search and probing, over entries and over terms, each with its refusals. A refusal writes nothing.
+use crate::Ended;
+use crate::Probed;
+use crate::Query;
+use crate::TopK;
+use crate::greedy::greedy;
+use crate::probing::probing;
+use crate::question::over_entries;
+use crate::question::over_terms;
+ghost use mathlib.Core.Path.{_≡_};
+ghost use lib.ListN.{length};
+ghost use Rattle.model.specs.Outcome.{answered, andThen};
+ghost use Rattle.model.specs.Queries.{ofEntries, ofTerms};
+ghost use Rattle.model.specs.TopK.{foundInto, greedyResult, probingResult};
+ghost use Rattle.top_k.specs.Results.{endedIs};
+ghost use Rattle.top_k.specs.Asked.{topKOf, probedOf, Ready, askedIn, greedyOf, probingOf};
+
+fn answer_of(e: Ended) -> TopK
+    ensures { λ r. ⌜ topKOf r ≡ answered (endedIs e) ⌝ }
+{
+    match e {
+        Ended::Done { listed, openings } => TopK::Done { listed, openings },
+        Ended::Spent { listed, allowance } => TopK::Spent { listed, allowance },
+    }
+}
+
+// The greedy search of a question.
+fn search_greedily(
+    archive: &[u8],
+    q: Query,
+    k: u32,
+    allowance: u32,
+    answers: &mut [u32],
+    work: &mut [u32],
+) -> TopK
+    requires { ⌜ Ready (now archive) k (length (now answers)) (length (now work)) q ⌝ }
+    ensures { λ r. ⌜ record { outcome = topKOf r; answers = now (answers .exit); work = now (work .exit) } ≡ foundInto (now (answers .entry)) (now (work .entry)) (andThen (askedIn (now (archive .entry)) q) (λ x. answered (greedyOf k allowance x))) ⌝ }
+{
+    match q {
+        Query::Refused(number) => TopK::Refused(number),
+        Query::Over(s) => answer_of(greedy(archive, s, k, allowance, answers, work)),
+    }
+}
+
+// Probing for a question.
+fn search_by_probing(
+    archive: &[u8],
+    q: Query,
+    k: u32,
+    answers: &mut [u32],
+    work: &mut [u32],
+) -> Probed
+    requires { ⌜ Ready (now archive) k (length (now answers)) (length (now work)) q ⌝ }
+    ensures { λ r. ⌜ record { outcome = probedOf r; answers = now (answers .exit); work = now (work .exit) } ≡ foundInto (now (answers .entry)) (now (work .entry)) (andThen (askedIn (now (archive .entry)) q) (λ x. answered (probingOf k x))) ⌝ }
+{
+    match q {
+        Query::Refused(number) => Probed::Refused(number),
+        Query::Over(s) => Probed::Pairs(probing(archive, s, k, answers, work) as u32),
+    }
+}
+
+// Greedy top-k of the entries a up to but without b.
+pub fn greedy_entries(
+    archive: &[u8],
+    a: u32,
+    b: u32,
+    k: u32,
+    allowance: u32,
+    answers: &mut [u32],
+    work: &mut [u32],
+) -> TopK
+    ensures { λ r. ⌜ record { outcome = topKOf r; answers = now (answers .exit); work = now (work .exit) } ≡ greedyResult (now (archive .entry)) (ofEntries a b) k allowance (now (answers .entry)) (now (work .entry)) ⌝ }
+{
+    let q = over_entries(archive, a, b, k, answers.len(), work.len());
+    search_greedily(archive, q, k, allowance, answers, work)
+}
+
+// Greedy top-k of the terms f to l, both included.
+pub fn greedy_terms(
+    archive: &[u8],
+    f: u32,
+    l: u32,
+    k: u32,
+    allowance: u32,
+    answers: &mut [u32],
+    work: &mut [u32],
+) -> TopK
+    ensures { λ r. ⌜ record { outcome = topKOf r; answers = now (answers .exit); work = now (work .exit) } ≡ greedyResult (now (archive .entry)) (ofTerms f l) k allowance (now (answers .entry)) (now (work .entry)) ⌝ }
+{
+    let q = over_terms(archive, f, l, k, answers.len(), work.len());
+    search_greedily(archive, q, k, allowance, answers, work)
+}
+
+// Probing top-k of the entries a up to but without b.
+pub fn probing_entries(
+    archive: &[u8],
+    a: u32,
+    b: u32,
+    k: u32,
+    answers: &mut [u32],
+    work: &mut [u32],
+) -> Probed
+    ensures { λ r. ⌜ record { outcome = probedOf r; answers = now (answers .exit); work = now (work .exit) } ≡ probingResult (now (archive .entry)) (ofEntries a b) k (now (answers .entry)) (now (work .entry)) ⌝ }
+{
+    let q = over_entries(archive, a, b, k, answers.len(), work.len());
+    search_by_probing(archive, q, k, answers, work)
+}
+
+// Probing top-k of the terms f to l, both included.
+pub fn probing_terms(
+    archive: &[u8],
+    f: u32,
+    l: u32,
+    k: u32,
+    answers: &mut [u32],
+    work: &mut [u32],
+) -> Probed
+    ensures { λ r. ⌜ record { outcome = probedOf r; answers = now (answers .exit); work = now (work .exit) } ≡ probingResult (now (archive .entry)) (ofTerms f l) k (now (answers .entry)) (now (work .entry)) ⌝ }
+{
+    let q = over_terms(archive, f, l, k, answers.len(), work.len());
+    search_by_probing(archive, q, k, answers, work)
+}
