@@ -1,7 +1,6 @@
 -- What the results of model come to, for bytes that are refused and for an opened archive.
-use Prim.Native.Nat.{ℕ, _+_, _*_, _≤_, _<_}
+use Prim.Native.Nat.{ℕ, _*_, _≤_, _<_}
 use native.Mathlib.Omega.{arith}
-use native.Mathlib.Numerals.{add-one}
 use mathlib.Core.Path.{_≡_, refl, sym, ap, _∙_}
 use mathlib.Core.List.{List}
 use mathlib.Core.Bool.{Bool, true, false, cond, _||_}
@@ -17,7 +16,7 @@ use Rattle.model.specs.Lists.{any, overwrite, Within}
 use Rattle.model.specs.Outcome.{Outcome, answered, refused, refuse}
 use Rattle.model.specs.Format.{Sizes}
 use Rattle.model.specs.Opening.{opening, contents}
-use Rattle.model.specs.Queries.{Place, place, none, placeBelow, Range, ofTerms, boundsOf, termStart, PairsResult, pairsInto, flat, quantile, conjunction, accessResult, rankResult, selectResult, rangeResult, quantileResult, listResult, conjunctionResult}
+use Rattle.model.specs.Queries.{Place, place, none, placeBelow, Range, boundsOf, PairsResult, pairsInto, flat, quantile, conjunction, accessResult, rankResult, selectResult, rangeResult, quantileResult, listResult, conjunctionResult}
 use Rattle.model.proofs.Wavelet.Sorted.{quantile-ranked, tally-below-suc}
 use Rattle.wavelet.proofs.NextDocument.{occurs-lt}
 use Rattle.archive.specs.declared.Layout.{Layout}
@@ -108,20 +107,6 @@ module _ (bytes : List ℕ) (l : Layout) (o : Opened bytes l) where
       (ap answered (found-place n (select d xs j) f e))
 
   -- ---- ranges
-
-  pub terms-reversed : (f t : ℕ) → t < f → refused 11 ≡ boundsOf (contents bytes) (ofTerms f t)
-  terms-reversed f t h = rw (lt-ltb t f h)
-
-  pub terms-past : (f t : ℕ) → f ≤ t → l .terms ≤ t → refused 11 ≡ boundsOf (contents bytes) (ofTerms f t)
-  terms-past f t h k =
-      rw (le-ltb t f h, lengths-size bytes l o, or-right (leb (l .terms) f) (leb (l .terms) t) (le-leb (l .terms) t k))
-
-  pub terms-are : (f t a b : ℕ) → f ≤ t → t < l .terms → a ≡ termStart (contents bytes) f → b ≡ termStart (contents bytes) (t + 1)
-      → answered (record { from = a; to = b }) ≡ boundsOf (contents bytes) (ofTerms f t)
-  terms-are f t a b h k p q =
-      let m : f < l .terms = omega arith in
-      rw (le-ltb t f h, lengths-size bytes l o, lt-leb (l .terms) f m, lt-leb (l .terms) t k)
-      (λ i. answered (record { from = p i; to = (q ∙ ap (termStart (contents bytes)) (add-one t)) i }))
 
   pub range-is : (range : Range) → boundsOf (contents bytes) range ≡ rangeResult bytes range
   range-is range = rw (o .accepted)

@@ -2,13 +2,11 @@
 use Prim.Native.Nat.{ℕ}
 use mathlib.Core.List.{List}
 use Rattle.model.specs.Outcome.{Outcome, answered, refused}
-use Rattle.model.specs.Queries.{Place, place, none, Bounds, PairsResult}
+use Rattle.model.specs.Queries.{Place, place, none, PairsResult}
 use Rattle.queries.specs.declared.Answer.{Answer}
 use Rattle.queries.specs.declared.Answer.the-variants as answer
 use Rattle.queries.specs.declared.Placed.{Placed}
 use Rattle.queries.specs.declared.Placed.the-variants as placed
-use Rattle.queries.specs.declared.Range.{Range}
-use Rattle.queries.specs.declared.Range.the-variants as range
 
 -- a number, or a refusal with its number
 abbrev pub numberOf : Answer → Outcome ℕ
@@ -20,11 +18,6 @@ abbrev pub placeOf : Placed → Outcome Place
 placeOf (placed.At p) = answered (place p)
 placeOf placed.Nothing = answered none
 placeOf (placed.Refused number) = refused number
-
--- the two ends of a range, or a refusal
-abbrev pub boundsIn : Range → Outcome Bounds
-boundsIn (range.Entries a b) = answered (record { from = a; to = b })
-boundsIn (range.Refused number) = refused number
 
 -- how many pairs, or a refusal, and the final content of the answer slice
 abbrev pub pairsOf : Answer → List ℕ → PairsResult

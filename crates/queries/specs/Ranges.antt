@@ -1,24 +1,12 @@
 -- Questions of a range, by its ends or their refusal. The results of model are these of the range as given.
-use Prim.Native.Nat.{ℕ, _*_, _≤_}
+use Prim.Native.Nat.{ℕ, _*_}
 use mathlib.Core.List.{List}
-use mathlib.Core.Bool.{_||_}
 use lib.ListN.{length}
 use lib.Dec.{leb, ltb}
 use Rattle.model.specs.Lists.{part}
 use Rattle.model.specs.Outcome.{Outcome, answered, refuse, andThen}
 use Rattle.model.specs.Format.{Library}
 use Rattle.model.specs.Queries.{Bounds, PairsResult, pairsInto, quantile, listing}
-use Rattle.queries.specs.declared.Range.{Range}
-use Rattle.queries.specs.declared.Range.the-variants.{Entries, Refused}
-
--- a range that is not refused is inside n entries
-abbrev pub Inside : ℕ → Range → Type 0
-Inside n (Entries a b) = (a ≤ b) × (b ≤ n)
-Inside n (Refused number) = Unit {0}
-
--- the ends of the entries a up to but without b, of n entries
-abbrev pub entryBounds : ℕ → ℕ → ℕ → Outcome Bounds
-entryBounds n a b = refuse 11 (ltb b a || ltb n b) (answered (record { from = a; to = b }))
 
 -- the entries between two ends
 abbrev pub between : Library → Outcome Bounds → Outcome (List ℕ)

@@ -22,9 +22,7 @@ pub use numbers::per_mille;
 pub use quantiles::quantile;
 pub use quantiles::quantile_in;
 pub use quantiles::quantile_terms;
-pub use ranges::entry_range;
 pub use ranges::range_of_terms;
-pub use ranges::term_range;
 
 // What a question for a number answers: the number, or the number of a refusal. A question for pairs answers how many they are.
 pub enum Answer {
@@ -36,12 +34,6 @@ pub enum Answer {
 pub enum Placed {
     At(u32),
     Nothing,
-    Refused(u32),
-}
-
-// What a question for a range answers: the entries from one place up to but without another, or the number of a refusal.
-pub enum Range {
-    Entries { from: u32, to: u32 },
     Refused(u32),
 }
 

@@ -1,12 +1,12 @@
 // Listing a range: every document in it once, ascending, with its count.
 use crate::Answer;
-use crate::Range;
 use crate::pairs::put_pair;
-use crate::ranges::entry_range;
-use crate::ranges::term_range;
 use archive::Layout;
 use archive::Opening;
+use archive::Range;
+use archive::entry_range;
 use archive::open;
+use archive::term_range;
 use wavelet::Levels;
 use wavelet::Span;
 use wavelet::halve;
@@ -19,8 +19,9 @@ ghost use Rattle.model.specs.Queries.{flat, listing, listResult, ofEntries, ofT
 ghost use Rattle.wavelet.specs.Levels.{Stored, entriesIn};
 ghost use Rattle.wavelet.specs.Spans.{Ordered};
 ghost use Rattle.archive.specs.Layout.{Opened};
-ghost use Rattle.queries.specs.Answers.{pairsOf, boundsIn};
-ghost use Rattle.queries.specs.Ranges.{Inside, listOf};
+ghost use Rattle.queries.specs.Answers.{pairsOf};
+ghost use Rattle.archive.specs.Ranges.{boundsIn, Inside};
+ghost use Rattle.queries.specs.Ranges.{listOf};
 ghost use Rattle.queries.specs.Written.{Written};
 ghost use Rattle.queries.specs.Listing.{pairsUnder};
 

@@ -9,7 +9,8 @@ use Prim.Native.Nat.{ℕ}
 use Rattle.model.specs.Outcome.{Outcome}
 use Rattle.model.specs.Queries.{Bounds, ofEntries}
 use Rattle.archive.proofs.Opened.{entries-size}
-use Rattle.queries.specs.Ranges.{entryBounds, listOf}
+use Rattle.archive.specs.Ranges.{entryBounds}
+use Rattle.queries.specs.Ranges.{listOf}
 use Rattle.queries.proofs.Results.{refused-of, list-is}
 use Rattle.queries.proofs.listing.list.Statement.{statement}
 use Rattle.queries.proofs.listing.list.Tie as tie

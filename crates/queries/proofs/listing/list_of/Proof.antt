@@ -7,8 +7,8 @@ use borrow.Author.Tests.{lt-ltb, le-ltb}
 use Rattle.model.specs.Outcome.{answered}
 use Rattle.model.specs.Opening.{contents}
 use Rattle.archive.proofs.Opened.{fitting, documents-are}
-use Rattle.queries.specs.declared.Range.the-variants.{Entries, Refused}
-use Rattle.queries.specs.Ranges.{Inside}
+use Rattle.archive.specs.declared.Range.the-variants.{Entries, Refused}
+use Rattle.archive.specs.Ranges.{Inside}
 use Rattle.model.specs.Lists.{part}
 use Rattle.model.specs.Queries.{pairsInto, listing}
 use Rattle.queries.proofs.Listed.{listing-le}

@@ -9,7 +9,8 @@ use Prim.Native.Nat.{ℕ}
 use Rattle.model.specs.Outcome.{Outcome}
 use Rattle.model.specs.Queries.{Bounds, ofEntries}
 use Rattle.archive.proofs.Opened.{entries-size}
-use Rattle.queries.specs.Ranges.{entryBounds, quantileOf}
+use Rattle.archive.specs.Ranges.{entryBounds}
+use Rattle.queries.specs.Ranges.{quantileOf}
 use Rattle.queries.proofs.Results.{refused-of, quantile-is}
 use Rattle.queries.proofs.quantiles.quantile.Statement.{statement}
 use Rattle.queries.proofs.quantiles.quantile.Tie as tie
