@@ -1,8 +1,8 @@
 // Document 01's small library asked through the code, and refusals in their order: each line has what was found beside what is expected.
 // A lent slice holds nines, and is written out whole after a question that fills it.
+use archive::Range;
 use queries::Answer;
 use queries::Placed;
-use queries::Range;
 use queries::Terms;
 
 fn write(text: &[u8]) {
