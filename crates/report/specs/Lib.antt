@@ -1,0 +1,3 @@
+-- What the contracts of report cite.
+pub mod Report
+pub mod Types

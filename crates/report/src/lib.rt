@@ -1,0 +1,5 @@
+// The report of the program `shortlist`: the bytes that it writes, from the bytes that it reads.
+mod program;
+mod text;
+
+pub use program::shortlist;
