@@ -1,7 +1,7 @@
 -- What is known of an opened archive and its layout.
 use Prim.Native.Nat.{ℕ, _+_, _*_, _^_, _≤_, _<_}
 use native.Mathlib.Omega.{arith}
-use mathlib.Core.Path.{_≡_, sym, ap, _∙_, subst}
+use mathlib.Core.Path.{_≡_, refl, sym, ap, _∙_, subst}
 use mathlib.Core.List.{List}
 use mathlib.Core.Bool.{true}
 use lib.ListN.{length, length-map}
@@ -19,7 +19,7 @@ use Rattle.model.proofs.Format.WriteBack.{Accepted, accepted}
 use Rattle.wavelet.specs.Levels.{entriesIn, Stored}
 use Rattle.wavelet.proofs.Stored.{length-entriesIn}
 use Rattle.archive.specs.declared.Layout.{Layout}
-use Rattle.archive.specs.Layout.{sizesIn, layoutOf, Fitting, Opened}
+use Rattle.archive.specs.Layout.{sizesIn, layoutOf, Fitting, IsArchive, Opened}
 use Rattle.archive.specs.Opening.{Laid, sampledAt}
 use Rattle.archive.proofs.Bounds.{bounded}
 use Rattle.archive.proofs.Parts.{laid-placed, placed-stored}
@@ -97,3 +97,7 @@ module _ (bytes : List ℕ) (l : Layout) (o : Opened bytes l) where
 
   pub start-le : (t : ℕ) → t ≤ l .terms → termStart (contents bytes) t ≤ l .levels .entries
   start-le t m = omega (arith, term-start-mono (contents bytes) t (l .terms) m, last-end)
+
+-- an archive, and the layout that its header gives
+pub archive-opened : (bytes : List ℕ) → IsArchive bytes → Opened bytes (layoutOf (sizesAt bytes))
+archive-opened bytes e = record { accepted = e; shape = refl }

@@ -4,7 +4,7 @@ use mathlib.Core.List.{List}
 use Prim.Native.Nat.{ℕ, _≤_}
 use Rattle.model.specs.Outcome.{answered}
 use Rattle.model.specs.Format.{Sizes, rowCount, samplesOffset, rowsOffset}
-use Rattle.model.specs.Opening.{opening}
+use Rattle.model.specs.Opening.{sizesAt, opening}
 use Rattle.archive.specs.declared.Layout.{Layout}
 
 -- n, N and W of a layout
@@ -25,6 +25,10 @@ pub record Fitting (l : Layout) : Type 0 where
   pub documents : l .documents ≤ 4096
   pub terms : l .terms ≤ 4096
   pub shape : l ≡ layoutOf (sizesIn l)
+
+-- the bytes are an archive: the check on opening accepts them
+abbrev pub IsArchive : List ℕ → Type 0
+IsArchive bytes = opening bytes ≡ answered (sizesAt bytes)
 
 -- the bytes are accepted, and this is their layout
 pub record Opened (bytes : List ℕ) (l : Layout) : Type 0 where

@@ -1,20 +1,17 @@
 -- What the reader's parts do, from the keys of one level to those of the next, and the answers of the reader.
 use mathlib.Core.Path.{_≡_}
 use mathlib.Core.List.{List, map}
-use mathlib.Core.Bool.{_||_}
 use Prim.Native.Nat.{ℕ, _+_, _-_, _*_, _/_, _^_, _≤_, _<_}
 use lib.ListN.{length, getD, take}
 use lib.Dec.{ltb, eqb}
 use Rattle.bit_rows.specs.Sequences.{tally}
 use Rattle.bit_rows.specs.Bits.{bitAt, rowBytes}
-use Rattle.model.specs.Outcome.{Outcome, answered, refused, refuse}
+use Rattle.model.specs.Outcome.{Outcome, answered, refused}
 use Rattle.model.specs.Format.{Sizes}
 use Rattle.wavelet.specs.declared.Levels.{Levels}
 use Rattle.wavelet.specs.Levels.{entriesIn}
-use Rattle.archive.specs.declared.Layout.{Layout}
 use Rattle.archive.specs.declared.Reading.{Reading}
 use Rattle.archive.specs.declared.Reading.the-variants.{Read, Refused}
-use Rattle.archive.specs.Layout.{sizesIn}
 use Rattle.archive.specs.Keys.{Next}
 
 -- the place of entry i where the entries are arranged by their keys
@@ -45,10 +42,6 @@ pub record Readable (bytes : List ℕ) (t : Levels) : Type 0 where
 -- the keys of level j
 abbrev pub keysAt : List ℕ → Levels → ℕ → List ℕ
 keysAt bytes t j = map (λ v. v / 2 ^ (t .height - j)) (entriesIn bytes t)
-
--- refusal 12 where a list is too short, else n, N and W
-abbrev pub roomOutcome : Layout → List ℕ → List ℕ → Outcome Sizes
-roomOutcome l entries lengths = refuse 12 (ltb (length entries) (l .levels .entries) || ltb (length lengths) (l .terms)) (answered (sizesIn l))
 
 -- document 01's number and values for each answer
 abbrev pub readingOf : Reading → Outcome Sizes

@@ -12,10 +12,13 @@ mod writer;
 
 pub use check::open;
 pub use offsets::archive_length;
+pub use offsets::layout_in;
 pub use offsets::layout_of;
+pub use offsets::within_limits;
 pub use ranges::entry_range;
 pub use ranges::term_range;
 pub use reader::read;
+pub use reader::read_in;
 pub use reader::read_opened;
 pub use terms::term_start;
 pub use writer::write;

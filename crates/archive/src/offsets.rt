@@ -1,11 +1,12 @@
 // The layout of an archive, as it follows from n, N and W.
 use crate::Layout;
+use bit_rows::number;
 use wavelet::Levels;
 ghost use mathlib.Core.Path.{_≡_};
 ghost use Prim.Native.Nat.{_^_, _≤_, _<_};
 ghost use Rattle.model.specs.Rows.{height};
 ghost use Rattle.model.specs.Format.{withinLimits, archiveLength};
-ghost use Rattle.archive.specs.Layout.{sizesIn, layoutOf, Fitting};
+ghost use Rattle.archive.specs.Layout.{sizesIn, layoutOf, Fitting, IsArchive, Opened};
 
 // h: the smallest number with 2 ^ h at least N.
 pub fn height_of(documents: usize) -> usize
@@ -58,6 +59,14 @@ pub fn layout_of(n: usize, documents: usize, terms: usize) -> Layout
             rows,
         },
     }
+}
+
+// The layout of an archive that was opened before, from its header.
+pub fn layout_in(archive: &[u8]) -> Layout
+    requires { ⌜ IsArchive (now archive) ⌝ }
+    ensures { λ r. ⌜ Opened (now (archive .entry)) r ⌝ }
+{
+    layout_of(number(archive, 4), number(archive, 8), number(archive, 12))
 }
 
 // The length of the archive in bytes.

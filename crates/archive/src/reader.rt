@@ -14,11 +14,11 @@ ghost use Prim.Native.Nat.{_+_, _*_, _≤_, _<_};
 ghost use lib.ListN.{length};
 ghost use Rattle.bit_rows.specs.Sequences.{below};
 ghost use Rattle.model.specs.Lists.{overwrite};
-ghost use Rattle.model.specs.Opening.{lengthAt, contents, readInto, readResult};
+ghost use Rattle.model.specs.Opening.{lengthAt, contents, readResult};
 ghost use Rattle.wavelet.specs.Levels.{entriesIn};
 ghost use Rattle.archive.specs.Keys.{Zeros};
 ghost use Rattle.archive.specs.Layout.{Opened};
-ghost use Rattle.archive.specs.Reading.{Descent, Deepened, Readable, keysAt, roomOutcome, readingOf};
+ghost use Rattle.archive.specs.Reading.{Descent, Deepened, Readable, keysAt, readingOf};
 
 // Appends to each key its bit of the row, which stands at the next free place of the key.
 fn deepen(row: &[u8], next: &mut [u32], keys: &mut [u32])
@@ -89,7 +89,7 @@ fn read_lengths(archive: &[u8], lengths: &mut [u32])
 }
 
 // The entries and the term lengths, into the front of two slices that are long enough.
-pub fn read_opened(archive: &[u8], l: Layout, entries: &mut [u32], lengths: &mut [u32])
+pub fn read_in(archive: &[u8], l: Layout, entries: &mut [u32], lengths: &mut [u32])
     requires { ⌜ Opened (now archive) l ⌝ }
     requires { ⌜ (l .levels .entries ≤ length (now entries)) × (l .terms ≤ length (now lengths)) ⌝ }
     ensures { λ r. ⌜ now (entries .exit) ≡ overwrite (contents (now (archive .entry)) .entries) (now (entries .entry)) ⌝ }
@@ -103,9 +103,9 @@ pub fn read_opened(archive: &[u8], l: Layout, entries: &mut [u32], lengths: &mut
 }
 
 // Refusal 12, or n, N and W.
-fn read_checked(archive: &[u8], l: Layout, entries: &mut [u32], lengths: &mut [u32]) -> Reading
+pub fn read_opened(archive: &[u8], l: Layout, entries: &mut [u32], lengths: &mut [u32]) -> Reading
     requires { ⌜ Opened (now archive) l ⌝ }
-    ensures { λ r. ⌜ record { outcome = readingOf r; entries = now (entries .exit); lengths = now (lengths .exit) } ≡ readInto (now (archive .entry)) (now (entries .entry)) (now (lengths .entry)) (roomOutcome l (now (entries .entry)) (now (lengths .entry))) ⌝ }
+    ensures { λ r. ⌜ record { outcome = readingOf r; entries = now (entries .exit); lengths = now (lengths .exit) } ≡ readResult (now (archive .entry)) (now (entries .entry)) (now (lengths .entry)) ⌝ }
 {
     let n = l.levels.entries;
     let terms = l.terms;
@@ -115,7 +115,7 @@ fn read_checked(archive: &[u8], l: Layout, entries: &mut [u32], lengths: &mut [u
     if lengths.len() < terms {
         return Reading::Refused(12);
     }
-    read_opened(archive, l, entries, lengths);
+    read_in(archive, l, entries, lengths);
     Reading::Read {
         entries: n,
         documents: l.documents,
@@ -129,6 +129,6 @@ pub fn read(archive: &[u8], entries: &mut [u32], lengths: &mut [u32]) -> Reading
 {
     match open(archive) {
         Opening::Refused(number) => Reading::Refused(number),
-        Opening::Accepted(l) => read_checked(archive, l, entries, lengths),
+        Opening::Accepted(l) => read_opened(archive, l, entries, lengths),
     }
 }

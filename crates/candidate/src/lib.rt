@@ -59,7 +59,7 @@ pub extern "C" fn candidate_read(
         rows,
     };
     let terms = lengths.len();
-    archive::read_opened(
+    archive::read_in(
         bytes,
         Layout {
             documents,

@@ -13,8 +13,8 @@ enum-known-number c = search needs
 enum-known-l : tie.Need-enum-known-l
 enum-known-l c = search needs
 
-read-checked-requires : tie.Need-read-checked-requires
-read-checked-requires c κs =
+read-opened-requires : tie.Need-read-opened-requires
+read-opened-requires c κs =
     let g = c .before .before .before .l .given in
     opened-of (c .before .before .before .before .before .before .before .before .before .args .archive .now) (g .0 .0) (sym (c .before .before .before .before .before .open .ensures) ∙ g .1)
 
@@ -30,9 +30,7 @@ same-length-2 : tie.Need-same-length-2
 same-length-2 c = search needs
 
 returns-2 : tie.Need-returns-2
-returns-2 c =
-    let g = c .before .before .before .before .before .before .before .before .l .given in
-    rw (opened-of (c .before .before .before .before .before .before .before .before .before .before .before .before .before .before .args .archive .now) (g .0 .0) (sym (c .before .before .before .before .before .before .before .before .before .before .open .ensures) ∙ g .1) .accepted) (c .before .before .before .before .read-checked .ensures)
+returns-2 c = search needs
 
 pub read-spec : {M : Type 1} → statement M
 read-spec =
@@ -41,7 +39,7 @@ read-spec =
     open-requires
     enum-known-number
     enum-known-l
-    read-checked-requires
+    read-opened-requires
     returns
     same-length
     same-length-2

@@ -1,43 +1,23 @@
-use mathlib.Core.Path.{sym, ap, _∙_}
-use mathlib.Core.List.{map}
-use Prim.Native.Nat.{ℕ}
-use native.Mathlib.Omega.{arith}
-use lib.Seq.{length-take-le}
+use lib.ListN.{length}
 use borrow.Author.Needs.{needs}
-use Rattle.bit_rows.specs.Sequences.{below}
-use Rattle.model.specs.Opening.{lengthAt, contents}
-use Rattle.archive.proofs.Opened.{fitting, entries-are}
-use Rattle.archive.proofs.Contents.{overwritten, opened-readable, opened-table, lengths-are}
+use borrow.Author.Tests.{lt-ltb, le-ltb}
+use Rattle.model.specs.Outcome.{answered}
+use Rattle.archive.specs.Layout.{sizesIn}
 use Rattle.archive.proofs.reader.read_opened.Statement.{statement}
 use Rattle.archive.proofs.reader.read_opened.Tie as tie
 
-slice-relend-prefix-read-entries : tie.Need-slice-relend-prefix-read-entries
-slice-relend-prefix-read-entries c = search needs
+returns : tie.Need-returns
+returns c =
+    let s = c .before .before .before .before .args in
+    rw (c .before .before .before .before .pre .accepted, lt-ltb (length (s .entries .now)) (s .l .levels .entries) (c .if1 .taken))
 
-slice-aggregate-read-entries : tie.Need-slice-aggregate-read-entries
-slice-aggregate-read-entries c =
-    let s = c .before .before .before .before .before in
-    sym (length-take-le (s .args .l .levels .entries) (s .args .entries .now) (s .pre .1 .0))
+returns-2 : tie.Need-returns-2
+returns-2 c =
+    let s = c .before .before .before .before .before .args in
+    rw (c .before .before .before .before .before .pre .accepted, le-ltb (length (s .entries .now)) (s .l .levels .entries) (c .before .if1 .left), lt-ltb (length (s .lengths .now)) (s .l .terms) (c .if2 .taken))
 
-read-entries-requires : tie.Need-read-entries-requires
-read-entries-requires c κs =
-    let s = c .before .before .before .before .before in
-    (opened-readable (s .args .archive .now) (s .args .l) (s .pre .0), length-take-le (s .args .l .levels .entries) (s .args .entries .now) (s .pre .1 .0))
-
-slice-relend-prefix-read-lengths : tie.Need-slice-relend-prefix-read-lengths
-slice-relend-prefix-read-lengths c = search needs
-
-slice-aggregate-read-lengths : tie.Need-slice-aggregate-read-lengths
-slice-aggregate-read-lengths c =
-    let s = c .before .before .before .before .before .before .before .before .before in
-    sym (length-take-le (s .args .l .terms) (s .args .lengths .now) (s .pre .1 .1))
-
-read-lengths-requires : tie.Need-read-lengths-requires
-read-lengths-requires c κs =
-    let s = c .before .before .before .before .before .before .before .before .before in
-    let e = length-take-le (s .args .l .terms) (s .args .lengths .now) (s .pre .1 .1) in
-    let f = fitting (s .args .archive .now) (s .args .l) (s .pre .0) in
-    omega (arith, opened-table (s .args .archive .now) (s .args .l) (s .pre .0), f .terms)
+read-in-requires : tie.Need-read-in-requires
+read-in-requires c κs = search needs
 
 same-length : tie.Need-same-length
 same-length c = search needs
@@ -45,31 +25,13 @@ same-length c = search needs
 same-length-2 : tie.Need-same-length-2
 same-length-2 c = search needs
 
-returns : tie.Need-returns
-returns c =
-    let s = c .before .before .before .before .before .before .before .before .before .before .before .before in
-    let bytes = s .args .archive .now in
-    let l = s .args .l in
-    let o = s .pre .0 in
-    let entries = c .before .before .before .before .before .before .read-entries in
-    let lengths = c .before .before .read-lengths in
-    let n = length-take-le (l .levels .entries) (s .args .entries .now) (s .pre .1 .0) in
-    let w = length-take-le (l .terms) (s .args .lengths .now) (s .pre .1 .1) in (
-      overwritten (contents bytes .entries) (s .args .entries .now) (entries .last .1 .1 .0) (l .levels .entries) (entries .ensures ∙ entries-are bytes l o) (entries .kept .1 .1 .0 ∙ n),
-      overwritten (contents bytes .lengths) (s .args .lengths .now) (lengths .last .1 .0) (l .terms)
-          (lengths .ensures ∙ ap (λ (k : ℕ). map (lengthAt bytes) (below k)) w ∙ lengths-are bytes l o) (lengths .kept .1 .0 ∙ w),
-    )
+returns-3 : tie.Need-returns-3
+returns-3 c =
+    let s = c .before .before .before .before .before .before .before .before .before .before .before .before .args in
+    let r = c .before .before .before .before .read-in .ensures in
+    rw (c .before .before .before .before .before .before .before .before .before .before .before .before .pre .accepted, le-ltb (length (s .entries .now)) (s .l .levels .entries) (c .before .before .before .before .before .before .before .before .if1 .left), le-ltb (length (s .lengths .now)) (s .l .terms) (c .before .before .before .before .before .before .before .if2 .left))
+    (λ i. record { outcome = answered (sizesIn (s .l)); entries = r .0 i; lengths = r .1 i })
 
 pub read-opened-spec : {M : Type 1} → statement M
 read-opened-spec =
-    tie.close
-    (tie.spec
-    slice-relend-prefix-read-entries
-    slice-aggregate-read-entries
-    read-entries-requires
-    slice-relend-prefix-read-lengths
-    slice-aggregate-read-lengths
-    read-lengths-requires
-    same-length
-    same-length-2
-    returns)
+    tie.close (tie.spec returns returns-2 read-in-requires same-length same-length-2 returns-3)
