@@ -46,12 +46,12 @@ uint32_t masuvelior_open(const uint8_t *archive, size_t archive_length,
                          uint32_t *n, uint32_t *documents, uint32_t *terms);
 
 /* The length in bytes of an archive of n entries, N documents and W terms. Refusal 14. */
-uint32_t masuvelior_archive_length(uint32_t n, uint32_t documents, uint32_t terms, uint32_t *length);
+uint32_t masuvelior_archive_length(uint32_t n, uint32_t documents, uint32_t terms, size_t *length);
 
 /* Writes the archive of n entries, those of term 0 first, with the number of entries of each of W terms, into the front of the target, and
  * answers its length in bytes; the rest of the target is untouched. Refusals 14 to 17. */
 uint32_t masuvelior_write(const uint32_t *entries, size_t n, const uint32_t *lengths, size_t terms, uint32_t documents,
-                          uint8_t *target, size_t target_length, uint32_t *length);
+                          uint8_t *target, size_t target_length, size_t *length);
 
 /* Reads the n entries and the W term lengths into the front of two slices, whose rest is untouched, and answers n, N and W.
  * Refusals 1 to 9, and 12 where a slice is under n or under W numbers. */
