@@ -1,14 +1,10 @@
-// The archive: its layout, the check on opening, the writer and the reader.
+// The archive: its layout, the check on opening, and the ranges of its terms.
 use wavelet::Levels;
 
 mod check;
-mod keys;
 mod offsets;
-mod put;
 mod ranges;
-mod reader;
 mod terms;
-mod writer;
 
 pub use check::open;
 pub use offsets::archive_length;
@@ -17,11 +13,7 @@ pub use offsets::layout_of;
 pub use offsets::within_limits;
 pub use ranges::entry_range;
 pub use ranges::term_range;
-pub use reader::read;
-pub use reader::read_in;
-pub use reader::read_opened;
 pub use terms::term_start;
-pub use writer::write;
 
 // The layout of an opened archive: N, W, and where its levels lie, n and h with them.
 pub struct Layout {
@@ -33,22 +25,6 @@ pub struct Layout {
 // What the check on opening answers: the layout of an accepted archive, n, N and W in it, or the number of a refusal.
 pub enum Opening {
     Accepted(Layout),
-    Refused(u32),
-}
-
-// The writer's answer: the archive's length in bytes, or the number of a refusal.
-pub enum Written {
-    Length(usize),
-    Refused(u32),
-}
-
-// The reader's answer: n, N and W, or the number of a refusal.
-pub enum Reading {
-    Read {
-        entries: usize,
-        documents: usize,
-        terms: usize,
-    },
     Refused(u32),
 }
 

@@ -2,8 +2,8 @@
 // pass as numbers: n, the height, the offset of the samples and the offset of the rows.
 use archive::Layout;
 use archive::Opening;
-use archive::Written;
 use bit_rows::Found;
+use codec::Written;
 use queries::Terms;
 use top_k::Ended;
 use top_k::Search;
@@ -32,7 +32,7 @@ pub extern "C" fn candidate_write(
     documents: u32,
     target: &mut [u8],
 ) -> usize {
-    match archive::write(entries, lengths, documents, target) {
+    match codec::write(entries, lengths, documents, target) {
         Written::Length(size) => size,
         Written::Refused(number) => number as usize,
     }
@@ -59,7 +59,7 @@ pub extern "C" fn candidate_read(
         rows,
     };
     let terms = lengths.len();
-    archive::read_in(
+    codec::read_in(
         bytes,
         Layout {
             documents,
