@@ -1,10 +1,11 @@
 // The operations on an archive as C sees them: a slice is its first element and its length, and the levels of an opened archive are numbers.
-// crates/candidate exports them under the prefix candidate_, peer.cpp under a prefix for each way that it is compiled.
+// ours.cpp and peer.cpp have them under a prefix for each way that they are compiled.
 #pragma once
 #include <stddef.h>
 #include <stdint.h>
 
 #define LEVELS const uint8_t *bytes, size_t len, size_t n, size_t height, size_t samples, size_t rows
+#define LEVELS_UNUSED const uint8_t *bytes, size_t len, size_t, size_t, size_t, size_t
 
 // 0, or the number of the refusal.
 typedef size_t open_fn(const uint8_t *bytes, size_t len);
@@ -15,7 +16,7 @@ typedef size_t access_fn(LEVELS, size_t i);
 typedef size_t rank_fn(LEVELS, size_t d, size_t i);
 // The place of the i-th entry d, i from 1; n where there is none.
 typedef size_t select_fn(LEVELS, size_t d, size_t i);
-// The count in the bits from 16 on, the document below.
+// The document.
 typedef size_t quantile_fn(LEVELS, size_t a, size_t b, size_t r);
 // The following answer how many pairs they wrote.
 typedef size_t list_fn(LEVELS, size_t documents, size_t a, size_t b, uint32_t *answers, size_t answers_len);
@@ -25,7 +26,6 @@ typedef size_t conjunction_fn(LEVELS, size_t documents, size_t terms, const uint
 typedef uint64_t greedy_fn(LEVELS, size_t documents, size_t a, size_t b, uint32_t k, uint32_t allowance, uint32_t *answers, size_t answers_len, uint32_t *work, size_t work_len);
 typedef size_t probing_fn(LEVELS, size_t documents, size_t a, size_t b, uint32_t k, uint32_t *answers, size_t answers_len, uint32_t *work, size_t work_len);
 
-// Where an operation is missing its pointer is null.
 struct Operations {
   open_fn *open;
   write_fn *write;

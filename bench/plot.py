@@ -7,7 +7,7 @@ import sys
 
 WIDTH, HEIGHT, LEFT, TOP, RIGHT, BOTTOM = 660, 400, 90, 40, 170, 50
 COLOURS = ["#c0392b", "#2471a3", "#7f8c8d", "#1e8449", "#8e44ad"]
-SHOWN = ["candidate", "tight nopop", "plain nopop", "sdsl wt_int nopop", "scan"]
+SHOWN = ["ours", "tight nopop", "plain nopop", "sdsl wt_int nopop", "scan"]
 SIZES = {"all": 65535, "1/16": 4095, "term": 16}
 
 

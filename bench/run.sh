@@ -9,12 +9,18 @@ CXX=${CXX:-$(command -v clang++ || command -v g++)}
 flags="-std=c++17 -O3 -DNDEBUG -Wall -Wextra -Wno-address"
 mkdir -p build
 
-(cd "$root" && rt staticlib candidate) >build/staticlib.log 2>&1 || { tail build/staticlib.log; exit 1; }
+(cd "$root" && rt staticlib masuvelior) >build/staticlib.log 2>&1 || { tail build/staticlib.log; exit 1; }
 objects=
 peer() { # NAME TIGHT FLAGS
   $CXX $flags -DPEER="$1" -DTIGHT="$2" $3 -c peer.cpp -o "build/$1.o"
   objects="$objects build/$1.o"
 }
+ours() { # NAME CHECKED
+  $CXX $flags -DOURS="$1" -DCHECKED="$2" -c ours.cpp -o "build/$1.o"
+  objects="$objects build/$1.o"
+}
+ours opened 0
+ours checked 1
 peer tight_nopop 1
 peer plain_nopop 0
 peer tight 1 -mpopcnt
@@ -42,6 +48,6 @@ else
 fi
 
 $CXX $flags -c scan.cpp -o build/scan.o
-$CXX $flags $sdsl run.cpp build/scan.o $objects "$root/target/staticlib/libcandidate.a" -o build/run
+$CXX $flags $sdsl run.cpp build/scan.o $objects "$root/target/staticlib/libmasuvelior.a" -o build/run
 build/run verify
 [ -n "$VERIFY_ONLY" ] || build/run time "${1:-2}" build/results.csv build/openings.csv ${2:+"$2"} | tee build/results.md

@@ -57,13 +57,12 @@ uint64_t quantile(void *p, const Query &q, uint32_t *) {
   if (is_short(x, q.b - q.a)) {
     uint16_t *s = x.sorted.data(), *end = std::copy(&x.entries[q.a], &x.entries[q.a] + (q.b - q.a), s);
     std::nth_element(s, s + q.x, end);
-    uint16_t d = s[q.x];
-    return (uint64_t)std::count(s, end, d) << 16 | d;
+    return s[q.x];
   }
   count(x, q.a, q.b);
   size_t d = 0;
   for (size_t r = q.x; r >= x.counts[d]; d++) r -= x.counts[d];
-  return (uint64_t)x.counts[d] << 16 | d;
+  return d;
 }
 
 size_t list_range(Scan &x, size_t a, size_t b, uint32_t *answers) {

@@ -55,8 +55,7 @@ template <class Tree> struct Peer {
     return q.a <= x.total[q.x] ? x.tree.select(q.a, q.x) : x.n;
   }
   static uint64_t quantile(void *p, const Query &q, uint32_t *) {
-    auto r = sdsl::quantile_freq(((Index *)p)->tree, q.a, q.b - 1, q.x);
-    return (uint64_t)r.second << 16 | r.first;
+    return sdsl::quantile_freq(((Index *)p)->tree, q.a, q.b - 1, q.x).first;
   }
   static uint64_t list(void *p, const Query &q, uint32_t *answers) {
     Index &x = *(Index *)p;
