@@ -128,7 +128,7 @@ uint64_t sum_words(void *p, const Query &, uint32_t *) {
 const size_t SCAN = 0, TIGHT = 1, PLAIN = 2;
 std::vector<Contender> contenders() {
   std::vector<Contender> all = {scan_contender(), Tree<tight_nopop>::contender("tight nopop"), Tree<plain_nopop>::contender("plain nopop"),
-                                Tree<opened>::contender("ours"), Tree<checked>::contender("ours, checked"), Tree<tight>::contender("tight"), Tree<plain>::contender("plain")};
+                                Tree<opened>::contender("ours"), Tree<checked>::contender("ours checked"), Tree<tight>::contender("tight"), Tree<plain>::contender("plain")};
 #ifdef SDSL
   Contender two[2];
   sdsl_plain(two);
