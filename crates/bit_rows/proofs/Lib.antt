@@ -11,3 +11,4 @@ pub mod Stores
 pub mod Search
 pub mod Words
 pub mod Near
+pub mod Onward

@@ -30,7 +30,7 @@ halve-step v row j lo half x e h false t = rw (add-zero lo) h
 
 module _ (row : List ℕ) (bytes : (i : ℕ) → getD row i 0 < 256) where
   -- w bits from bit s of the word at byte k on
-  count-in-word : (v k s w : ℕ) → v < 2 → s + w ≤ 64
+  pub count-in-word : (v k s w : ℕ) → v < 2 → s + w ≤ 64
       → countBelow v row (8 * k + s + w) ≡ countBelow v row (8 * k + s) + ofKind v w (ones (wordAt row k / 2 ^ s % 2 ^ w))
   count-in-word v k s w l h =
       let x = wordAt row k in

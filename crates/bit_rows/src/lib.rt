@@ -2,6 +2,7 @@
 // (n + 7) / 8 bytes of a slice, its samples (n + 511) / 512 numbers of 32 bits in another.
 mod check;
 mod count;
+mod known;
 mod numbers;
 mod rank;
 mod select;
@@ -11,6 +12,7 @@ pub use check::samples_right;
 pub use check::unused_clear;
 pub use count::bit;
 pub use count::ones_before;
+pub use known::rank1_from;
 pub use numbers::number;
 pub use numbers::put_number;
 pub use rank::rank0;

@@ -9,14 +9,15 @@ use mathlib.Core.List.{List}
 use mathlib.Core.Bool.{Bool, true, false, cond}
 use lib.ListN.{length}
 use lib.Seq.{take-length}
-use lib.Dec.{eqb}
+use lib.Dec.{eqb, ltb}
 use borrow.Author.Tests.{lt-ltb, le-ltb}
 use Rattle.bit_rows.specs.Sequences.{occurrences, rank, select}
 use Rattle.bit_rows.specs.Rows.{foundAt}
 use Rattle.bit_rows.specs.declared.Found.{Found}
 use Rattle.bit_rows.specs.declared.Found.the-variants.{At, Nothing}
-use Rattle.bit_rows.proofs.Tally.{tally-le-length}
-use Rattle.model.proofs.Wavelet.Walk.{left, selectFrom}
+use Rattle.model.proofs.Wavelet.Walk.{left, right, rankFrom, selectFrom}
+use Rattle.model.proofs.Wavelet.Counts.{ones-step}
+use Rattle.model.proofs.Wavelet.Rank.{rank-walk}
 use Rattle.model.proofs.Wavelet.Rows.{row-length, row-below}
 use Rattle.bit_rows.proofs.Sequences.{select-le, select-none}
 use Rattle.model.proofs.Wavelet.Rows.{rows-of}
@@ -24,7 +25,7 @@ use Rattle.model.proofs.Wavelet.Place.{select-ge, select-placed, zeros-front}
 use Rattle.model.proofs.Wavelet.Select.{select-walk}
 use Rattle.wavelet.specs.declared.Levels.{Levels}
 use Rattle.wavelet.specs.Levels.{entriesIn, levelOf}
-use Rattle.wavelet.specs.Places.{placeOr, upFromHalf}
+use Rattle.wavelet.specs.Places.{placeOr, upFromHalf, offsetFrom}
 use Rattle.wavelet.proofs.Stored.{length-entriesIn, within-entriesIn}
 
 pub found-place : (n x : ℕ) → x ≤ n → placeOr (foundAt n x) n ≡ x
@@ -66,61 +67,112 @@ module _ (bytes : List ℕ) (t : Levels) (j : ℕ) (l : j < t .height) where
 
 -- ---- the walk
 
+-- all places of the high half
+right-end : (bits : List ℕ) (s e : ℕ) → s ≤ e → right bits s e e ≡ e
+right-end bits s e l = omega (arith, ones-step bits s e l)
+
+-- an offset in a half, carried up into the node
+raise : (ℕ → ℕ) → Found → Found
+raise f (At p) = At (f p)
+raise f Nothing = Nothing
+
+raise-cond : (f : ℕ → ℕ) (b : Bool) (x : ℕ) → raise f (cond b (At x) Nothing) ≡ cond b (At (f x)) Nothing
+unfolding raise
+raise-cond f true x = refl
+raise-cond f false x = refl
+
 module _ (bytes : List ℕ) (t : Levels) (d j s e k : ℕ) where
   abbrev h : ℕ
   h = t .height
 
+  abbrev rows : ℕ → List ℕ
+  rows = levelOf bytes t
+
   -- at the leaf
-  pub offset-end : j ≡ h → k ≡ selectFrom (levelOf bytes t) d (h - j) j s e k
+  pub offset-end : j ≡ h → foundAt (e - s) k ≡ offsetFrom rows d (h - j) j s e k
   offset-end p =
       let z : 0 ≡ h - j = omega arith in
-      ap (λ (m : ℕ). selectFrom (levelOf bytes t) d m j s e k) z
+      ap (λ (m : ℕ). offsetFrom rows d m j s e k) z
 
-  -- by one row
-  pub offset-next : j < h → (bit mid below : ℕ) → bit ≡ d / 2 ^ (h - 1 - j) % 2 → mid ≡ left (levelOf bytes t j) s e
-      → below ≡ selectFrom (levelOf bytes t) d (h - (j + 1)) (j + 1) (cond (eqb bit 1) mid s) (cond (eqb bit 1) e mid) k
-      → upFromHalf (levelOf bytes t j) s bit below ≡ selectFrom (levelOf bytes t) d (h - j) j s e k
-  offset-next l bit mid below p q r =
-      (λ i. upFromHalf (levelOf bytes t j) s bit (r i)) ∙ rw (add-one j) (go (eqb bit 1) refl) ∙ ap (λ (m : ℕ). selectFrom (levelOf bytes t) d m j s e k) n
-    where
-      n : suc (h - suc j) ≡ h - j
-      n = omega arith
+  -- by one row, to the half that the next bit leads to
+  module _ (l : j < h) (o : s ≤ e) (bit mid : ℕ) (p : bit ≡ d / 2 ^ (h - 1 - j) % 2) (q : mid ≡ left (rows j) s e) where
+    abbrev s' : ℕ
+    s' = cond (eqb bit 1) mid s
 
-      top : eqb (d / 2 ^ (h - suc j) % 2) 1 ≡ eqb bit 1
-      top =
-          let f : h - suc j ≡ h - 1 - j = omega arith in
-          ap (λ (m : ℕ). eqb (d / 2 ^ m % 2) 1) f ∙ ap (λ (x : ℕ). eqb x 1) (sym p)
+    abbrev e' : ℕ
+    e' = cond (eqb bit 1) e mid
 
-      go : (b : Bool) → eqb bit 1 ≡ b
-          → upFromHalf (levelOf bytes t j) s bit (selectFrom (levelOf bytes t) d (h - suc j) (suc j) (cond (eqb bit 1) mid s) (cond (eqb bit 1) e mid) k)
-          ≡ selectFrom (levelOf bytes t) d (suc (h - suc j)) j s e k
-      go true f =
-          rw (top, f)
-          (ap (λ (m : ℕ). select 1 (levelOf bytes t j) (rank 1 (levelOf bytes t j) s + selectFrom (levelOf bytes t) d (h - suc j) (suc j) m e k + 1) - s) q)
-      go false f =
-          rw (top, f)
-          (ap (λ (m : ℕ). select 0 (levelOf bytes t j) ((s - rank 1 (levelOf bytes t j) s) + selectFrom (levelOf bytes t) d (h - suc j) (suc j) s m k + 1) - s) q)
+    rest : suc (h - suc j) ≡ h - j
+    rest = omega arith
+
+    top : eqb (d / 2 ^ (h - suc j) % 2) 1 ≡ eqb bit 1
+    top =
+        let f : h - suc j ≡ h - 1 - j = omega arith in
+        ap (λ (m : ℕ). eqb (d / 2 ^ m % 2) 1) f ∙ ap (λ (x : ℕ). eqb x 1) (sym p)
+
+    count-next : rankFrom rows d (h - suc j) (suc j) s' e' e' ≡ rankFrom rows d (h - j) j s e e
+    count-next = go (eqb bit 1) refl ∙ ap (λ (m : ℕ). rankFrom rows d m j s e e) rest
+      where
+        go : (b : Bool) → eqb bit 1 ≡ b → rankFrom rows d (h - suc j) (suc j) s' e' e' ≡ rankFrom rows d (suc (h - suc j)) j s e e
+        go true f = rw (top, f) (λ i. rankFrom rows d (h - suc j) (suc j) (q i) (sym (right-end (rows j) s e o) i) e)
+        go false f = rw (top, f) (ap (λ (m : ℕ). rankFrom rows d (h - suc j) (suc j) s m m) q)
+
+    place-next : upFromHalf (rows j) s bit (selectFrom rows d (h - suc j) (suc j) s' e' k) ≡ selectFrom rows d (h - j) j s e k
+    place-next = go (eqb bit 1) refl ∙ ap (λ (m : ℕ). selectFrom rows d m j s e k) rest
+      where
+        go : (b : Bool) → eqb bit 1 ≡ b
+            → upFromHalf (rows j) s bit (selectFrom rows d (h - suc j) (suc j) s' e' k) ≡ selectFrom rows d (suc (h - suc j)) j s e k
+        go true f =
+            rw (top, f) (ap (λ (m : ℕ). select 1 (rows j) (rank 1 (rows j) s + selectFrom rows d (h - suc j) (suc j) m e k + 1) - s) q)
+        go false f =
+            rw (top, f) (ap (λ (m : ℕ). select 0 (rows j) ((s - rank 1 (rows j) s) + selectFrom rows d (h - suc j) (suc j) s m k + 1) - s) q)
+
+    offset-next : raise (upFromHalf (rows j) s bit) (offsetFrom rows d (h - (j + 1)) (j + 1) s' e' k) ≡ offsetFrom rows d (h - j) j s e k
+    offset-next =
+        rw (add-one j)
+        (raise-cond (upFromHalf (rows j) s bit) (ltb k (rankFrom rows d (h - suc j) (suc j) s' e' e')) (selectFrom rows d (h - suc j) (suc j) s' e' k)
+        ∙ (λ i. cond (ltb k (count-next i)) (At (place-next i)) Nothing))
+
+    pub offset-none : Nothing ≡ offsetFrom rows d (h - (j + 1)) (j + 1) s' e' k → Nothing ≡ offsetFrom rows d (h - j) j s e k
+    unfolding raise
+    offset-none f = ap (raise (upFromHalf (rows j) s bit)) f ∙ offset-next
+
+    pub offset-some : (x : ℕ) → At x ≡ offsetFrom rows d (h - (j + 1)) (j + 1) s' e' k → At (upFromHalf (rows j) s bit x) ≡ offsetFrom rows d (h - j) j s e k
+    unfolding raise
+    offset-some x f = ap (raise (upFromHalf (rows j) s bit)) f ∙ offset-next
 
 -- ---- from the root
 
-module _ (bytes : List ℕ) (t : Levels) (d i : ℕ) (l : 0 < i) where
-  all-occurrences : rank d (entriesIn bytes t) (t .entries) ≡ occurrences d (entriesIn bytes t)
-  all-occurrences = ap (rank d (entriesIn bytes t)) (sym (length-entriesIn bytes t)) ∙ ap (occurrences d) (take-length (entriesIn bytes t))
+module _ (bytes : List ℕ) (t : Levels) (d i : ℕ) (m : d < 2 ^ t .height) (l : 0 < i) where
+  abbrev n : ℕ
+  n = t .entries
 
-  pub rank-le : rank d (entriesIn bytes t) (t .entries) ≤ t .entries
-  rank-le = omega (arith, all-occurrences, tally-le-length (eqb d) (entriesIn bytes t), length-entriesIn bytes t)
+  abbrev xs : List ℕ
+  xs = entriesIn bytes t
 
-  pub select-absent : rank d (entriesIn bytes t) (t .entries) < i → Nothing ≡ foundAt (t .entries) (select d (entriesIn bytes t) i)
-  select-absent m =
-      let e = select-none d (entriesIn bytes t) i (rw all-occurrences at m) ∙ length-entriesIn bytes t in
-      rw (e, le-ltb (t .entries) (t .entries) (omega arith))
+  all-occurrences : rankFrom (levelOf bytes t) d (t .height - 0) 0 0 n n ≡ occurrences d xs
+  all-occurrences =
+      (λ k. rankFrom (levelOf bytes t) d (sub-zero (t .height) k) 0 0 (sym (length-entriesIn bytes t) k) (sym (length-entriesIn bytes t) k))
+      ∙ rank-walk (rows-of (t .height) xs (within-entriesIn bytes t)) d (length xs) m (omega arith)
+      ∙ ap (occurrences d) (take-length xs)
 
-  pub select-root : i ≤ rank d (entriesIn bytes t) (t .entries)
-      → At (selectFrom (levelOf bytes t) d (t .height - 0) 0 0 (t .entries) (i - 1)) ≡ foundAt (t .entries) (select d (entriesIn bytes t) i)
-  select-root m =
-      let o : i ≤ occurrences d (entriesIn bytes t) = rw all-occurrences at m in
-      let p = select-placed d (entriesIn bytes t) i l o .inside in
-      rw (lt-ltb (select d (entriesIn bytes t) i) (t .entries) (rw (length-entriesIn bytes t) at p))
+  absent : occurrences d xs < i → Nothing ≡ foundAt n (select d xs i)
+  absent o =
+      let e = select-none d xs i o ∙ length-entriesIn bytes t in
+      rw (e, le-ltb n n (omega arith))
+
+  present : i ≤ occurrences d xs → At (selectFrom (levelOf bytes t) d (t .height - 0) 0 0 n (i - 1)) ≡ foundAt n (select d xs i)
+  present o =
+      let p = select-placed d xs i l o .inside in
+      rw (lt-ltb (select d xs i) n (rw (length-entriesIn bytes t) at p))
       (ap At
       ((λ k. selectFrom (levelOf bytes t) d (sub-zero (t .height) k) 0 0 (sym (length-entriesIn bytes t) k) (i - 1))
-      ∙ select-walk (rows-of (t .height) (entriesIn bytes t) (within-entriesIn bytes t)) d i l o))
+      ∙ select-walk (rows-of (t .height) xs (within-entriesIn bytes t)) d i l o))
+
+  pub select-root : offsetFrom (levelOf bytes t) d (t .height - 0) 0 0 n (i - 1) ≡ foundAt n (select d xs i)
+  select-root = rw all-occurrences (go (decLe i (occurrences d xs)))
+    where
+      go : Dec (i ≤ occurrences d xs)
+          → cond (ltb (i - 1) (occurrences d xs)) (At (selectFrom (levelOf bytes t) d (t .height - 0) 0 0 n (i - 1))) Nothing ≡ foundAt n (select d xs i)
+      go (yes o) = rw (lt-ltb (i - 1) (occurrences d xs) (omega arith)) (present o)
+      go (no o) = rw (le-ltb (i - 1) (occurrences d xs) (omega arith)) (absent (omega arith))

@@ -1,7 +1,7 @@
 // Select: down by the bits of a document to its leaf, and up by the places of bits.
 use crate::Levels;
-use crate::descent::rank;
 use crate::level::ones;
+use crate::level::ones_from;
 use crate::level::select_one;
 use crate::level::select_zero;
 use bit_rows::Found;
@@ -11,9 +11,8 @@ ghost use Prim.Native.Nat.{_-_, _^_, _≤_, _<_};
 ghost use lib.Dec.{eqb};
 ghost use Rattle.bit_rows.specs.Sequences as sequences;
 ghost use Rattle.bit_rows.specs.Rows.{foundAt};
-ghost use Rattle.model.proofs.Wavelet.Walk.{selectFrom};
 ghost use Rattle.wavelet.specs.Levels.{Stored, entriesIn, levelOf};
-ghost use Rattle.wavelet.specs.Places.{placeOr, upFromHalf};
+ghost use Rattle.wavelet.specs.Places.{placeOr, upFromHalf, offsetFrom};
 
 // The place that a search among n bits answers; n where it found nothing.
 fn place_or(f: Found, n: usize) -> usize
@@ -45,6 +44,17 @@ fn up(bytes: &[u8], t: Levels, j: usize, start: usize, before: usize, bit: usize
     }
 }
 
+// Place k of a leaf, where it has so many entries.
+fn at_leaf(k: usize, size: usize) -> Found
+    ensures { λ r. ⌜ (r ≡ foundAt size k) × (placeOr r 0 ≤ size) ⌝ }
+{
+    if k < size {
+        Found::At(k)
+    } else {
+        Found::Nothing
+    }
+}
+
 // How far into its node, from start to end in level j, the entry d stands that has k like it before it. Rows that remain fall at each call.
 fn offset_of(
     bytes: &[u8],
@@ -54,21 +64,23 @@ fn offset_of(
     start: usize,
     end: usize,
     k: usize,
-) -> usize
+) -> Found
     requires { ⌜ Stored (now bytes) t ⌝ }
-    requires { ⌜ (j ≤ t .height) × (start ≤ end) × (end ≤ t .entries) × (k ≤ t .entries) ⌝ }
-    ensures { λ r. ⌜ (r ≡ selectFrom (levelOf (now (bytes .entry)) t) d (t .height - j) j start end k) × (r ≤ t .entries) ⌝ }
+    requires { ⌜ (j ≤ t .height) × (start ≤ end) × (end ≤ t .entries) ⌝ }
+    ensures { λ r. ⌜ (r ≡ offsetFrom (levelOf (now (bytes .entry)) t) d (t .height - j) j start end k) × (placeOr r 0 ≤ t .entries) ⌝ }
 {
     if j == t.height {
-        return k;
+        return at_leaf(k, end - start);
     }
     let before = ones(bytes, t, j, start);
-    let middle = end - (ones(bytes, t, j, end) - before);
+    let middle = end - (ones_from(bytes, t, j, start, before, end) - before);
     let bit = (d >> (t.height - 1 - j)) % 2;
     let from = pick(bit, middle, start);
     let to = pick(bit, end, middle);
-    let below = offset_of(bytes, t, d, j + 1, from, to, k);
-    up(bytes, t, j, start, before, bit, below)
+    let Found::At(below) = offset_of(bytes, t, d, j + 1, from, to, k) else {
+        return Found::Nothing;
+    };
+    Found::At(up(bytes, t, j, start, before, bit, below))
 }
 
 // The place of the i-th entry d, i from 1.
@@ -77,8 +89,5 @@ pub fn select(bytes: &[u8], t: Levels, d: usize, i: usize) -> Found
     requires { ⌜ (d < 2 ^ t .height) × (0 < i) ⌝ }
     ensures { λ r. ⌜ r ≡ foundAt (t .entries) (sequences.select d (entriesIn (now (bytes .entry)) t) i) ⌝ }
 {
-    if rank(bytes, t, d, t.entries) < i {
-        return Found::Nothing;
-    }
-    Found::At(offset_of(bytes, t, d, 0, 0, t.entries, i - 1))
+    offset_of(bytes, t, d, 0, 0, t.entries, i - 1)
 }

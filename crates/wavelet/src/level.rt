@@ -50,6 +50,22 @@ pub fn ones(bytes: &[u8], t: Levels, j: usize, p: usize) -> usize
     bit_rows::rank1(samples_at(bytes, t, j), row_at(bytes, t, j), t.entries, p)
 }
 
+// The same before place y, where c stand before place x that is not behind it.
+pub fn ones_from(bytes: &[u8], t: Levels, j: usize, x: usize, c: usize, y: usize) -> usize
+    requires { ⌜ Stored (now bytes) t ⌝ }
+    requires { ⌜ (j < t .height) × (x ≤ y) × (y ≤ t .entries) × (c ≡ rank 1 (levelOf (now bytes) t j) x) ⌝ }
+    ensures { λ r. ⌜ (r ≡ rank 1 (levelOf (now (bytes .entry)) t j) y) × (c ≤ r) × (r ≤ y) ⌝ }
+{
+    bit_rows::rank1_from(
+        samples_at(bytes, t, j),
+        row_at(bytes, t, j),
+        t.entries,
+        x,
+        c,
+        y,
+    )
+}
+
 // The place of the i-th one of level j, and of the i-th zero.
 pub fn select_one(bytes: &[u8], t: Levels, j: usize, i: usize) -> Found
     requires { ⌜ Stored (now bytes) t ⌝ }

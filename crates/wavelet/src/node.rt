@@ -4,6 +4,7 @@ use crate::Levels;
 use crate::Place;
 use crate::Span;
 use crate::level::ones;
+use crate::level::ones_from;
 ghost use mathlib.Core.Path.{_≡_};
 ghost use Prim.Native.Nat.{_<_};
 ghost use Rattle.wavelet.specs.Levels.{Stored, levelOf};
@@ -16,20 +17,20 @@ pub fn halve(bytes: &[u8], t: Levels, j: usize, s: Span) -> Halves
     ensures { λ r. ⌜ (r ≡ halvesOf (levelOf (now (bytes .entry)) t j) s) × Ordered (t .entries) (r .low) × Ordered (t .entries) (r .high) ⌝ }
 {
     let before = ones(bytes, t, j, s.start);
-    let lo = ones(bytes, t, j, s.lo) - before;
-    let hi = ones(bytes, t, j, s.hi) - before;
-    let all = ones(bytes, t, j, s.end) - before;
-    let middle = s.end - all;
+    let lo = ones_from(bytes, t, j, s.start, before, s.lo);
+    let hi = ones_from(bytes, t, j, s.lo, lo, s.hi);
+    let all = ones_from(bytes, t, j, s.hi, hi, s.end);
+    let middle = s.end - (all - before);
     let low = Span {
         start: s.start,
-        lo: s.lo - lo,
-        hi: s.hi - hi,
+        lo: s.lo - (lo - before),
+        hi: s.hi - (hi - before),
         end: middle,
     };
     let high = Span {
         start: middle,
-        lo: middle + lo,
-        hi: middle + hi,
+        lo: middle + (lo - before),
+        hi: middle + (hi - before),
         end: s.end,
     };
     Halves { low, high }
@@ -51,19 +52,19 @@ pub fn step(bytes: &[u8], t: Levels, j: usize, p: Place, bit: usize) -> Place
     ensures { λ r. ⌜ spanAt r ≡ halfOf (halvesOf (levelOf (now (bytes .entry)) t j) (spanAt p)) bit ⌝ }
 {
     let before = ones(bytes, t, j, p.start);
-    let at = ones(bytes, t, j, p.at) - before;
-    let all = ones(bytes, t, j, p.end) - before;
-    let middle = p.end - all;
+    let at = ones_from(bytes, t, j, p.start, before, p.at);
+    let all = ones_from(bytes, t, j, p.at, at, p.end);
+    let middle = p.end - (all - before);
     if bit == 1 {
         Place {
             start: middle,
-            at: middle + at,
+            at: middle + (at - before),
             end: p.end,
         }
     } else {
         Place {
             start: p.start,
-            at: p.at - at,
+            at: p.at - (at - before),
             end: middle,
         }
     }

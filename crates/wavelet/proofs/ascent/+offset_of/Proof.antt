@@ -1,23 +1,26 @@
 use borrow.Author.Needs.{needs}
 use Prim.Native.Nat.{ℕ, _+_, _-_, _/_, _%_, _^_, _<_}
 use native.Mathlib.Omega.{arith}
-use mathlib.Core.Path.{refl, _∙_}
+use mathlib.Core.Path.{_≡_, refl, ap, _∙_}
 use mathlib.Core.List.{List}
 use mathlib.Core.Bool.{Bool}
 use lib.Dec.{eqb}
-use Rattle.model.proofs.Wavelet.Walk.{selectFrom}
-use Rattle.model.proofs.Wavelet.Counts.{ones-mono, left-le}
+use Rattle.bit_rows.specs.declared.Found.the-variants.{At, Nothing}
+use Rattle.model.proofs.Wavelet.Counts.{left-le}
 use Rattle.wavelet.specs.Levels.{levelOf}
+use Rattle.wavelet.specs.Places.{offsetFrom}
 use Rattle.wavelet.proofs.Spans.{left-is}
-use Rattle.wavelet.proofs.Places.{picked, offset-end, offset-next}
+use Rattle.wavelet.proofs.Places.{picked, offset-end, offset-none, offset-some}
 use borrow.Fn.Kinds.{In}
 use borrow.Fn.PlainCycle.{Measures, is, falls, and}
 use Rattle.wavelet.proofs.ascent.offset_of.Reads as offset-of
 use Rattle.wavelet.proofs.ascent.offset_of.Kinds as offset-of-kinds
 use Rattle.wavelet.proofs.ascent.+offset_of.Lts-offset_of as offset-of-lts
+use Rattle.wavelet.proofs.ascent.at_leaf.Reads as at-leaf-reads
 use Rattle.wavelet.proofs.ascent.pick.Reads as pick-reads
 use Rattle.wavelet.proofs.ascent.up.Reads as up-reads
 use Rattle.wavelet.proofs.level.ones.Reads as ones-reads
+use Rattle.wavelet.proofs.level.ones_from.Reads as ones-from-reads
 use Rattle.wavelet.proofs.ascent.+offset_of.{statement}
 use Rattle.wavelet.proofs.ascent.+offset_of.Tie.{close}
 
@@ -31,9 +34,45 @@ abbrev offset-of-below : ℕ → In 1 offset-of-kinds.ps
 offset-of-below t =
     and 1 offset-of-kinds.ps (falls 1 offset-of-kinds.ps _<_ μ-offset-of t) offset-of.Pre
 
-offset-of-returns : (t : ℕ) → offset-of-lts.Need-returns (
+offset-of-sub-at-leaf : (t : ℕ) → offset-of-lts.Need-sub-at-leaf (
+  at-leaf-reads.Asked,
+  at-leaf-reads.Learnt,
   ones-reads.Asked,
   ones-reads.Learnt,
+  ones-from-reads.Asked,
+  ones-from-reads.Learnt,
+  pick-reads.Asked,
+  pick-reads.Learnt,
+  offset-of-below t,
+  offset-of.Post,
+  up-reads.Asked,
+  up-reads.Learnt,
+) (offset-of-at t) offset-of.Post
+offset-of-sub-at-leaf t c = search needs
+
+offset-of-at-leaf-requires : (t : ℕ) → offset-of-lts.Need-at-leaf-requires (
+  at-leaf-reads.Asked,
+  at-leaf-reads.Learnt,
+  ones-reads.Asked,
+  ones-reads.Learnt,
+  ones-from-reads.Asked,
+  ones-from-reads.Learnt,
+  pick-reads.Asked,
+  pick-reads.Learnt,
+  offset-of-below t,
+  offset-of.Post,
+  up-reads.Asked,
+  up-reads.Learnt,
+) (offset-of-at t) offset-of.Post
+offset-of-at-leaf-requires t c κs = search needs
+
+offset-of-returns : (t : ℕ) → offset-of-lts.Need-returns (
+  at-leaf-reads.Asked,
+  at-leaf-reads.Learnt,
+  ones-reads.Asked,
+  ones-reads.Learnt,
+  ones-from-reads.Asked,
+  ones-from-reads.Learnt,
   pick-reads.Asked,
   pick-reads.Learnt,
   offset-of-below t,
@@ -42,13 +81,17 @@ offset-of-returns : (t : ℕ) → offset-of-lts.Need-returns (
   up-reads.Learnt,
 ) (offset-of-at t) offset-of.Post
 offset-of-returns t c =
-    let s = c .before .before .before in
+    let s = c .before .before .before .before in
     let g = s .args in
-    (offset-end (g .bytes .now) (g .t) (g .d) (g .j) (g .start) (g .end) (g .k) (c .if1 .taken), s .pre .1 .1 .3)
+    (c .at-leaf .ensures .0 ∙ offset-end (g .bytes .now) (g .t) (g .d) (g .j) (g .start) (g .end) (g .k) (c .before .if1 .taken), omega (arith, c .at-leaf .ensures .1))
 
 offset-of-ones-requires : (t : ℕ) → offset-of-lts.Need-ones-requires (
+  at-leaf-reads.Asked,
+  at-leaf-reads.Learnt,
   ones-reads.Asked,
   ones-reads.Learnt,
+  ones-from-reads.Asked,
+  ones-from-reads.Learnt,
   pick-reads.Asked,
   pick-reads.Learnt,
   offset-of-below t,
@@ -58,9 +101,13 @@ offset-of-ones-requires : (t : ℕ) → offset-of-lts.Need-ones-requires (
 ) (offset-of-at t) offset-of.Post
 offset-of-ones-requires t c κs = search needs
 
-offset-of-ones-requires-2 : (t : ℕ) → offset-of-lts.Need-ones-requires-2 (
+offset-of-ones-from-requires : (t : ℕ) → offset-of-lts.Need-ones-from-requires (
+  at-leaf-reads.Asked,
+  at-leaf-reads.Learnt,
   ones-reads.Asked,
   ones-reads.Learnt,
+  ones-from-reads.Asked,
+  ones-from-reads.Learnt,
   pick-reads.Asked,
   pick-reads.Learnt,
   offset-of-below t,
@@ -68,11 +115,15 @@ offset-of-ones-requires-2 : (t : ℕ) → offset-of-lts.Need-ones-requires-2 (
   up-reads.Asked,
   up-reads.Learnt,
 ) (offset-of-at t) offset-of.Post
-offset-of-ones-requires-2 t c κs = search needs
+offset-of-ones-from-requires t c κs = search needs
 
 offset-of-sub-middle : (t : ℕ) → offset-of-lts.Need-sub-middle (
+  at-leaf-reads.Asked,
+  at-leaf-reads.Learnt,
   ones-reads.Asked,
   ones-reads.Learnt,
+  ones-from-reads.Asked,
+  ones-from-reads.Learnt,
   pick-reads.Asked,
   pick-reads.Learnt,
   offset-of-below t,
@@ -80,14 +131,15 @@ offset-of-sub-middle : (t : ℕ) → offset-of-lts.Need-sub-middle (
   up-reads.Asked,
   up-reads.Learnt,
 ) (offset-of-at t) offset-of.Post
-offset-of-sub-middle t c =
-    let s = c .before .before .before .before .before in
-    let g = s .args in
-    omega (arith, ones-mono (levelOf (g .bytes .now) (g .t) (g .j)) (g .start) (g .end) (s .pre .1 .1 .1))
+offset-of-sub-middle t c = search needs
 
 offset-of-sub-middle-2 : (t : ℕ) → offset-of-lts.Need-sub-middle-2 (
+  at-leaf-reads.Asked,
+  at-leaf-reads.Learnt,
   ones-reads.Asked,
   ones-reads.Learnt,
+  ones-from-reads.Asked,
+  ones-from-reads.Learnt,
   pick-reads.Asked,
   pick-reads.Learnt,
   offset-of-below t,
@@ -98,8 +150,12 @@ offset-of-sub-middle-2 : (t : ℕ) → offset-of-lts.Need-sub-middle-2 (
 offset-of-sub-middle-2 t c = search needs
 
 offset-of-sub-bit : (t : ℕ) → offset-of-lts.Need-sub-bit (
+  at-leaf-reads.Asked,
+  at-leaf-reads.Learnt,
   ones-reads.Asked,
   ones-reads.Learnt,
+  ones-from-reads.Asked,
+  ones-from-reads.Learnt,
   pick-reads.Asked,
   pick-reads.Learnt,
   offset-of-below t,
@@ -110,8 +166,12 @@ offset-of-sub-bit : (t : ℕ) → offset-of-lts.Need-sub-bit (
 offset-of-sub-bit t c = search needs
 
 offset-of-sub-bit-2 : (t : ℕ) → offset-of-lts.Need-sub-bit-2 (
+  at-leaf-reads.Asked,
+  at-leaf-reads.Learnt,
   ones-reads.Asked,
   ones-reads.Learnt,
+  ones-from-reads.Asked,
+  ones-from-reads.Learnt,
   pick-reads.Asked,
   pick-reads.Learnt,
   offset-of-below t,
@@ -122,8 +182,12 @@ offset-of-sub-bit-2 : (t : ℕ) → offset-of-lts.Need-sub-bit-2 (
 offset-of-sub-bit-2 t c = search needs
 
 offset-of-shr-bit : (t : ℕ) → offset-of-lts.Need-shr-bit (
+  at-leaf-reads.Asked,
+  at-leaf-reads.Learnt,
   ones-reads.Asked,
   ones-reads.Learnt,
+  ones-from-reads.Asked,
+  ones-from-reads.Learnt,
   pick-reads.Asked,
   pick-reads.Learnt,
   offset-of-below t,
@@ -134,8 +198,12 @@ offset-of-shr-bit : (t : ℕ) → offset-of-lts.Need-shr-bit (
 offset-of-shr-bit t c = search needs
 
 offset-of-pick-requires : (t : ℕ) → offset-of-lts.Need-pick-requires (
+  at-leaf-reads.Asked,
+  at-leaf-reads.Learnt,
   ones-reads.Asked,
   ones-reads.Learnt,
+  ones-from-reads.Asked,
+  ones-from-reads.Learnt,
   pick-reads.Asked,
   pick-reads.Learnt,
   offset-of-below t,
@@ -146,8 +214,12 @@ offset-of-pick-requires : (t : ℕ) → offset-of-lts.Need-pick-requires (
 offset-of-pick-requires t c κs = search needs
 
 offset-of-pick-requires-2 : (t : ℕ) → offset-of-lts.Need-pick-requires-2 (
+  at-leaf-reads.Asked,
+  at-leaf-reads.Learnt,
   ones-reads.Asked,
   ones-reads.Learnt,
+  ones-from-reads.Asked,
+  ones-from-reads.Learnt,
   pick-reads.Asked,
   pick-reads.Learnt,
   offset-of-below t,
@@ -158,8 +230,12 @@ offset-of-pick-requires-2 : (t : ℕ) → offset-of-lts.Need-pick-requires-2 (
 offset-of-pick-requires-2 t c κs = search needs
 
 offset-of-add-offset-of : (t : ℕ) → offset-of-lts.Need-add-offset-of (
+  at-leaf-reads.Asked,
+  at-leaf-reads.Learnt,
   ones-reads.Asked,
   ones-reads.Learnt,
+  ones-from-reads.Asked,
+  ones-from-reads.Learnt,
   pick-reads.Asked,
   pick-reads.Learnt,
   offset-of-below t,
@@ -170,8 +246,12 @@ offset-of-add-offset-of : (t : ℕ) → offset-of-lts.Need-add-offset-of (
 offset-of-add-offset-of t c = search needs
 
 offset-of-offset-of-requires : (t : ℕ) → offset-of-lts.Need-offset-of-requires (
+  at-leaf-reads.Asked,
+  at-leaf-reads.Learnt,
   ones-reads.Asked,
   ones-reads.Learnt,
+  ones-from-reads.Asked,
+  ones-from-reads.Learnt,
   pick-reads.Asked,
   pick-reads.Learnt,
   offset-of-below t,
@@ -185,20 +265,21 @@ offset-of-offset-of-requires t c κs =
     let g = s .args in
     let bits : List ℕ = levelOf (g .bytes .now) (g .t) (g .j) in
     let l = s .pre .1 .1 .1 in
-    let m = left-is bits (g .start) (g .end) (k .before .ones .result) (k .ones2 .result) l (k .before .ones .ensures .0) (k .ones2 .ensures .0) in
-    let mid : ℕ = g .end - (k .ones2 .result - k .before .ones .result) in
+    let m = left-is bits (g .start) (g .end) (k .before .ones .result) (k .ones-from .result) l (k .before .ones .ensures .0) (k .ones-from .ensures .0) in
+    let mid : ℕ = g .end - (k .ones-from .result - k .before .ones .result) in
     let b : Bool = eqb (g .d / 2 ^ (g .t .height - 1 - g .j) % 2) 1 in
     let p = picked b (g .start) mid (g .end) (g .t .entries) (omega arith) (omega (arith, left-le bits (g .start) (g .end) l)) (s .pre .1 .1 .2) in (
       omega arith,
-      (
-        s .pre .1 .0,
-        (omega arith, rw (c .before .pick .ensures, c .pick2 .ensures) (p .0), rw (c .pick2 .ensures) (p .1), s .pre .1 .1 .3),
-      ),
+      (s .pre .1 .0, (omega arith, rw (c .before .pick .ensures, c .pick2 .ensures) (p .0), rw (c .pick2 .ensures) (p .1))),
     )
 
-offset-of-up-requires : (t : ℕ) → offset-of-lts.Need-up-requires (
+offset-of-enum-known-below : (t : ℕ) → offset-of-lts.Need-enum-known-below (
+  at-leaf-reads.Asked,
+  at-leaf-reads.Learnt,
   ones-reads.Asked,
   ones-reads.Learnt,
+  ones-from-reads.Asked,
+  ones-from-reads.Learnt,
   pick-reads.Asked,
   pick-reads.Learnt,
   offset-of-below t,
@@ -206,11 +287,31 @@ offset-of-up-requires : (t : ℕ) → offset-of-lts.Need-up-requires (
   up-reads.Asked,
   up-reads.Learnt,
 ) (offset-of-at t) offset-of.Post
-offset-of-up-requires t c κs = search needs
+offset-of-enum-known-below t c = search needs
 
-offset-of-returns-2 : (t : ℕ) → offset-of-lts.Need-returns-2 (
+offset-of-enum-told : (t : ℕ) → offset-of-lts.Need-enum-told (
+  at-leaf-reads.Asked,
+  at-leaf-reads.Learnt,
   ones-reads.Asked,
   ones-reads.Learnt,
+  ones-from-reads.Asked,
+  ones-from-reads.Learnt,
+  pick-reads.Asked,
+  pick-reads.Learnt,
+  offset-of-below t,
+  offset-of.Post,
+  up-reads.Asked,
+  up-reads.Learnt,
+) (offset-of-at t) offset-of.Post
+offset-of-enum-told t c = search needs
+
+offset-of-returns-2 : (t : ℕ) → offset-of-lts.Need-returns-2 (
+  at-leaf-reads.Asked,
+  at-leaf-reads.Learnt,
+  ones-reads.Asked,
+  ones-reads.Learnt,
+  ones-from-reads.Asked,
+  ones-from-reads.Learnt,
   pick-reads.Asked,
   pick-reads.Learnt,
   offset-of-below t,
@@ -219,25 +320,82 @@ offset-of-returns-2 : (t : ℕ) → offset-of-lts.Need-returns-2 (
   up-reads.Learnt,
 ) (offset-of-at t) offset-of.Post
 offset-of-returns-2 t c =
-    let k = c .before .before .before .before .before in
+    let k = c .before .before .before .before .before .before in
     let s = k .before .before .before .before .before in
     let g = s .args in
     let bits : List ℕ = levelOf (g .bytes .now) (g .t) (g .j) in
-    let m =
-    left-is bits (g .start) (g .end) (k .before .ones .result) (k .ones2 .result) (s .pre .1 .1 .1) (k .before .ones .ensures .0) (k .ones2 .ensures .0) in
-    let mid : ℕ = g .end - (k .ones2 .result - k .before .ones .result) in
-    let e =
-    offset-next (g .bytes .now) (g .t) (g .d) (g .j) (g .start) (g .end) (g .k) (omega arith) (g .d / 2 ^ (g .t .height - 1 - g .j) % 2) mid
-    (c .before .offset-of .result) refl m
-    (c .before .offset-of .ensures .0
-    ∙ (λ i. selectFrom (levelOf (g .bytes .now) (g .t)) (g .d) (g .t .height - (g .j + 1)) (g .j + 1) (c .before .before .before .pick .ensures i)
-    (c .before .before .pick2 .ensures i) (g .k))) in
-    (c .up .ensures .0 ∙ e, c .up .ensures .1)
+    let l = s .pre .1 .1 .1 in
+    let m = left-is bits (g .start) (g .end) (k .before .ones .result) (k .ones-from .result) l (k .before .ones .ensures .0) (k .ones-from .ensures .0) in
+    let mid : ℕ = g .end - (k .ones-from .result - k .before .ones .result) in
+    let e : Nothing ≡ c .before .before .offset-of .result = cc in (
+      offset-none (g .bytes .now) (g .t) (g .d) (g .j) (g .start) (g .end) (g .k) (omega arith) l (g .d / 2 ^ (g .t .height - 1 - g .j) % 2) mid refl m
+          (e ∙ c .before .before .offset-of .ensures .0
+          ∙ (λ i. offsetFrom (levelOf (g .bytes .now) (g .t)) (g .d) (g .t .height - (g .j + 1)) (g .j + 1) (c .before .before .before .before .pick .ensures i)
+          (c .before .before .before .pick2 .ensures i) (g .k))),
+      omega arith,
+    )
+
+offset-of-up-requires : (t : ℕ) → offset-of-lts.Need-up-requires (
+  at-leaf-reads.Asked,
+  at-leaf-reads.Learnt,
+  ones-reads.Asked,
+  ones-reads.Learnt,
+  ones-from-reads.Asked,
+  ones-from-reads.Learnt,
+  pick-reads.Asked,
+  pick-reads.Learnt,
+  offset-of-below t,
+  offset-of.Post,
+  up-reads.Asked,
+  up-reads.Learnt,
+) (offset-of-at t) offset-of.Post
+offset-of-up-requires t c κs =
+    let k = c .before .before .before .before .before .before .before in
+    let s = k .before .before .before .before .before in
+    let e : c .before .before .before .offset-of .result ≡ At (c .before .below .given .0 .0) = cc in
+    let b = rw e at (c .before .before .before .offset-of .ensures .1) in
+    (s .pre .1 .0, (omega arith, omega arith, b, k .before .ones .ensures .0, k .before .ones .ensures .1))
+
+offset-of-returns-3 : (t : ℕ) → offset-of-lts.Need-returns-3 (
+  at-leaf-reads.Asked,
+  at-leaf-reads.Learnt,
+  ones-reads.Asked,
+  ones-reads.Learnt,
+  ones-from-reads.Asked,
+  ones-from-reads.Learnt,
+  pick-reads.Asked,
+  pick-reads.Learnt,
+  offset-of-below t,
+  offset-of.Post,
+  up-reads.Asked,
+  up-reads.Learnt,
+) (offset-of-at t) offset-of.Post
+offset-of-returns-3 t c =
+    let k = c .before .before .before .before .before .before .before .before in
+    let s = k .before .before .before .before .before in
+    let g = s .args in
+    let bits : List ℕ = levelOf (g .bytes .now) (g .t) (g .j) in
+    let l = s .pre .1 .1 .1 in
+    let m = left-is bits (g .start) (g .end) (k .before .ones .result) (k .ones-from .result) l (k .before .ones .ensures .0) (k .ones-from .ensures .0) in
+    let mid : ℕ = g .end - (k .ones-from .result - k .before .ones .result) in
+    let e : At (c .before .before .below .given .0 .0) ≡ c .before .before .before .before .offset-of .result = cc in (
+      ap At (c .up .ensures .0)
+          ∙ offset-some (g .bytes .now) (g .t) (g .d) (g .j) (g .start) (g .end) (g .k) (omega arith) l (g .d / 2 ^ (g .t .height - 1 - g .j) % 2) mid refl m
+          (c .before .before .below .given .0 .0)
+          (e ∙ c .before .before .before .before .offset-of .ensures .0
+          ∙ (λ i. offsetFrom (levelOf (g .bytes .now) (g .t)) (g .d) (g .t .height - (g .j + 1)) (g .j + 1) (c .before .before .before .before .before .before .pick .ensures i)
+          (c .before .before .before .before .before .pick2 .ensures i) (g .k))),
+      c .up .ensures .1,
+    )
 
 pub +offset-of-spec : {M : Type 1} → statement M
 +offset-of-spec = close μ-offset-of λ t. offset-of-lts.spec (
+  at-leaf-reads.Asked,
+  at-leaf-reads.Learnt,
   ones-reads.Asked,
   ones-reads.Learnt,
+  ones-from-reads.Asked,
+  ones-from-reads.Learnt,
   pick-reads.Asked,
   pick-reads.Learnt,
   offset-of-below t,
@@ -247,9 +405,11 @@ pub +offset-of-spec : {M : Type 1} → statement M
 )
     (offset-of-at t)
     offset-of.Post
+    (offset-of-sub-at-leaf t)
+    (offset-of-at-leaf-requires t)
     (offset-of-returns t)
     (offset-of-ones-requires t)
-    (offset-of-ones-requires-2 t)
+    (offset-of-ones-from-requires t)
     (offset-of-sub-middle t)
     (offset-of-sub-middle-2 t)
     (offset-of-sub-bit t)
@@ -259,5 +419,8 @@ pub +offset-of-spec : {M : Type 1} → statement M
     (offset-of-pick-requires-2 t)
     (offset-of-add-offset-of t)
     (offset-of-offset-of-requires t)
-    (offset-of-up-requires t)
+    (offset-of-enum-known-below t)
+    (offset-of-enum-told t)
     (offset-of-returns-2 t)
+    (offset-of-up-requires t)
+    (offset-of-returns-3 t)
