@@ -25,7 +25,6 @@ typedef size_t conjunction_fn(LEVELS, size_t documents, size_t terms, const uint
 typedef uint64_t greedy_fn(LEVELS, size_t documents, size_t a, size_t b, uint32_t k, uint32_t allowance, uint32_t *answers, size_t answers_len, uint32_t *work, size_t work_len);
 typedef size_t probing_fn(LEVELS, size_t documents, size_t a, size_t b, uint32_t k, uint32_t *answers, size_t answers_len, uint32_t *work, size_t work_len);
 
-// Where an operation is missing its pointer is null.
 struct Operations {
   open_fn *open;
   write_fn *write;

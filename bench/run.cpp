@@ -16,19 +16,14 @@
 Contender scan_contender();
 extern "C" void sdsl_plain(Contender *), sdsl_popcnt(Contender *);
 
-#define OPENED(p) extern "C" { open_fn p##_open; write_fn p##_write; read_fn p##_read; access_fn p##_access; rank_fn p##_rank; select_fn p##_select; quantile_fn p##_quantile; }
-#define SEARCHED(p) extern "C" { list_fn p##_list; conjunction_fn p##_conjunction; greedy_fn p##_greedy; probing_fn p##_probing; }
-#define PEER(p) OPENED(p) SEARCHED(p) constexpr Operations p = {p##_open, p##_write, p##_read, p##_access, p##_rank, p##_select, p##_quantile, p##_list, p##_conjunction, p##_greedy, p##_probing};
+#define PEER(p) extern "C" { open_fn p##_open; write_fn p##_write; read_fn p##_read; access_fn p##_access; rank_fn p##_rank; select_fn p##_select; quantile_fn p##_quantile; list_fn p##_list; conjunction_fn p##_conjunction; greedy_fn p##_greedy; probing_fn p##_probing; } \
+  constexpr Operations p = {p##_open, p##_write, p##_read, p##_access, p##_rank, p##_select, p##_quantile, p##_list, p##_conjunction, p##_greedy, p##_probing};
 
 PEER(tight_nopop)
 PEER(plain_nopop)
 PEER(tight)
 PEER(plain)
-
-// An operation of the candidate that is null here is timed for the others alone. To add one: export it in crates/candidate, and name it here.
-OPENED(candidate)
-extern "C" { conjunction_fn candidate_conjunction; greedy_fn candidate_greedy; }
-constexpr Operations candidate = {candidate_open, candidate_write, candidate_read, candidate_access, candidate_rank, candidate_select, candidate_quantile, nullptr, candidate_conjunction, candidate_greedy, nullptr};
+PEER(candidate)
 
 namespace {
 typedef std::vector<uint32_t> Numbers;
@@ -108,7 +103,7 @@ template <const Operations &F> struct Tree {
     return F.probing(AT(x), x.documents, q.a, q.b, q.k, answers, 2 * x.documents, x.work.data(), x.work.size());
   }
   static Contender contender(const char *name) {
-    return {name, build, drop, bytes, {open, write, read, access, rank, select, quantile, F.list ? list : nullptr, F.conjunction ? conjunction : nullptr, F.greedy ? greedy : nullptr, F.probing ? probing : nullptr}};
+    return {name, build, drop, bytes, {open, write, read, access, rank, select, quantile, list, conjunction, greedy, probing}};
   }
 };
 

@@ -1,18 +1,17 @@
 // What bench/ calls: the operations on an archive under C names. A struct does not pass the C border, so the levels of an opened archive
 // pass as numbers: n, the height, the offset of the samples and the offset of the rows.
+pub mod searches;
+
 use archive::Layout;
 use archive::Opening;
 use archive::Written;
 use bit_rows::Found;
 use queries::Terms;
-use top_k::Ended;
-use top_k::Search;
 use wavelet::Levels;
 ghost use Prim.Native.Nat.{_-_, _*_, _^_, _≤_, _<_, min};
 ghost use lib.ListN.{length};
 ghost use Rattle.wavelet.specs.Levels.{Stored};
 ghost use Rattle.archive.specs.Layout.{Opened};
-ghost use Rattle.top_k.specs.Moves.{Searchable};
 ghost use Rattle.queries.specs.Conjunction.{Asked};
 
 // 0 for an archive that is accepted, else the number of the refusal.
@@ -219,43 +218,4 @@ pub extern "C" fn candidate_conjunction(
         },
         answers,
     )
-}
-
-// The pairs in the bits below 32, the openings from 32 on, and in bit 63 whether the allowance was spent.
-#[no_mangle]
-pub extern "C" fn candidate_greedy(
-    bytes: &[u8],
-    n: usize,
-    height: usize,
-    samples: usize,
-    rows: usize,
-    documents: usize,
-    a: usize,
-    b: usize,
-    k: u32,
-    allowance: u32,
-    answers: &mut [u32],
-    work: &mut [u32],
-) -> u64
-    requires { ⌜ Searchable (now bytes) (record { levels = record { entries = n; height = height; samples = samples; rows = rows }; documents = documents; a = a; b = b }) ⌝ }
-    requires { ⌜ (2 * min k documents ≤ length (now answers)) × (4 * documents ≤ length (now work)) ⌝ }
-{
-    let levels = Levels {
-        entries: n,
-        height,
-        samples,
-        rows,
-    };
-    let s = Search {
-        levels,
-        documents,
-        a,
-        b,
-    };
-    match top_k::greedy::greedy(bytes, s, k, allowance, answers, work) {
-        Ended::Done { listed, openings } => ((openings as u64) << 32) ^ (listed as u64),
-        Ended::Spent { listed, allowance } => {
-            (1 << 63) ^ ((allowance as u64) << 32) ^ (listed as u64)
-        }
-    }
 }
