@@ -1,0 +1,198 @@
+-- Demand 3, sentence by sentence, of what both searches promise where a question is accepted: `x` is what is searched.
+use Prim.Native.Nat.{ℕ, _*_, _≤_, _<_, min}
+use native.Mathlib.Omega.{arith}
+use mathlib.Core.Path.{_≡_, refl, sym, ap, ap₂, _∙_, subst}
+use mathlib.Core.List.{List}
+use mathlib.Core.Bool.{Bool, true, false, cond}
+use lib.ListN.{length, take, drop, replicate}
+use lib.Seq.{take-append-seam}
+use lib.Dec.{leb, ltb}
+use borrow.Author.Tests.{le-leb, lt-leb}
+use Rattle.bit_rows.specs.Sequences.{tally}
+use Rattle.model.specs.Lists.{part, overwrite, Within}
+use Rattle.model.specs.Outcome.{Outcome, answered, refused, refuse, andThen}
+use Rattle.model.specs.Rows.{height}
+use Rattle.model.specs.Format.{Sizes}
+use Rattle.model.specs.Opening.{opening, contents}
+use Rattle.model.specs.Queries.{Pair, Range, Bounds, boundsOf, inRange, flat}
+use Rattle.model.specs.TopK.{fullList, need, covered, Answer, done, spent, topK, Ended, doneWith, spentWith, endedOf, pairsOf, SearchResult, foundInto, greedyResult, probingResult}
+use Rattle.model.specs.Search.{isOpening, searchMoves}
+use Rattle.model.proofs.Height.{le-pow-height}
+use Rattle.model.proofs.Lists.{within-part}
+use Rattle.model.proofs.Format.Valid.{refuse-answered}
+use Rattle.model.proofs.Format.WriteBack as opened
+use Rattle.model.proofs.Probing.Slices.{length-flat}
+use Rattle.model.proofs.Greedy.Answers.{figureOf}
+use Rattle.model.proofs.Greedy.Theorem.{openings, topK-mono}
+use Rattle.top_k.specs.Asked.{Asked, withRoom, asked, greedyOf, probingOf}
+use Rattle.top_k.proofs.Asking.{search-asked}
+use Rattle.top_k.proofs.Demand3.FullList.{Longest, longest-covered}
+
+-- ---- an accepted question
+
+module _ (k : ℕ) (x : Asked) where
+  abbrev pub full : List Pair
+  full = fullList (x .documents) k (x .entries)
+
+  abbrev pub cost : ℕ
+  cost = need (height (x .documents)) (x .entries) full
+
+  -- the longest front part of the full list whose own need the allowance covers
+  abbrev pub front : ℕ → List Pair
+  front allowance = covered (height (x .documents)) (x .entries) allowance full (length full)
+
+  pub front-longest : (allowance : ℕ) → Longest (height (x .documents)) (x .entries) allowance full (length full) (front allowance)
+  front-longest allowance = longest-covered (height (x .documents)) (x .entries) allowance full (length full)
+
+-- what the public operations promise is what is found: the statements below are about that
+module _ (bytes : List ℕ) (range : Range) (k : ℕ) (out work : List ℕ) (x : Asked) (accepted : asked bytes range k (length out) (length work) ≡ answered x) where
+  pub greedy-accepted : (allowance : ℕ) → greedyResult bytes range k allowance out work ≡ foundInto out work (answered (greedyOf k allowance x))
+  greedy-accepted allowance =
+      search-asked bytes range k out work (λ N xs. greedyOf k allowance (record { documents = N; entries = xs }))
+      ∙ ap (λ (o : Outcome Asked). foundInto out work (andThen o (λ y. answered (greedyOf k allowance y)))) accepted
+
+  pub probing-accepted : probingResult bytes range k out work ≡ foundInto out work (answered (probingOf k x))
+  probing-accepted =
+      search-asked bytes range k out work (λ N xs. probingOf k (record { documents = N; entries = xs }))
+      ∙ ap (λ (o : Outcome Asked). foundInto out work (andThen o (λ y. answered (probingOf k y)))) accepted
+
+  -- what is searched are documents
+  pub accepted-within : Within (x .documents) (x .entries)
+  accepted-within = from (opening bytes) refl accepted
+    where
+      asks : Asked → Outcome Asked
+      asks y = withRoom k (length out) (length work) y
+
+      inside : (s : Sizes) → opening bytes ≡ answered s → (o : Outcome Bounds)
+          → andThen (andThen o (λ b. answered (part (b .from) (b .to) (contents bytes .entries)))) (λ xs. asks (record { documents = contents bytes .documents; entries = xs })) ≡ answered x
+          → Within (x .documents) (x .entries)
+      inside s e (answered b) q =
+          let y : Asked = record { documents = contents bytes .documents; entries = part (b .from) (b .to) (contents bytes .entries) } in
+          let room = refuse-answered 12 (ltb (length out) (2 * min k (y .documents))) (refuse 13 (ltb (length work) (4 * y .documents)) (answered y)) x q in
+          let is : y ≡ x = cc (refuse-answered 13 (ltb (length work) (4 * y .documents)) (answered y) x (room .1) .1) in
+          subst (λ (z : Asked). Within (z .documents) (z .entries)) is
+          (within-part (y .documents) (b .from) (b .to) (contents bytes .entries) (opened.accepted bytes s e .0 .within))
+      inside s e (refused number) q = let z : _≡_ {A = ℕ} 0 1 = cc q in absurd (omega arith)
+
+      from : (o : Outcome Sizes) → opening bytes ≡ o
+          → andThen (andThen o (λ s. answered (contents bytes))) (λ lib. andThen (inRange lib range) (λ xs. asks (record { documents = lib .documents; entries = xs }))) ≡ answered x
+          → Within (x .documents) (x .entries)
+      from (answered s) e q = inside s e (boundsOf (contents bytes) range) q
+      from (refused number) e q = let z : _≡_ {A = ℕ} 0 1 = cc q in absurd (omega arith)
+
+-- ---- what an answer says
+
+-- whether it is 'done'
+abbrev pub isDone : Outcome Ended → Bool
+isDone (answered (doneWith listed openings)) = true
+isDone (answered (spentWith listed allowance)) = false
+isDone (refused number) = false
+
+-- its number: the openings, or the allowance
+abbrev pub figure : Outcome Ended → ℕ
+figure (answered (doneWith listed openings)) = openings
+figure (answered (spentWith listed allowance)) = allowance
+figure (refused number) = 0
+
+-- how many pairs it lists
+abbrev pub listed : Outcome Ended → ℕ
+listed (answered (doneWith n openings)) = n
+listed (answered (spentWith n allowance)) = n
+listed (refused number) = 0
+
+figure-ended : (a : Answer) → figure (answered (endedOf a)) ≡ figureOf a
+figure-ended (done ps openings) = refl
+figure-ended (spent ps allowance) = refl
+
+listed-ended : (a : Answer) → listed (answered (endedOf a)) ≡ length (pairsOf a)
+listed-ended (done ps openings) = refl
+listed-ended (spent ps allowance) = refl
+
+-- ---- the greedy search
+
+module _ (k allowance : ℕ) (x : Asked) (out work : List ℕ) (r : SearchResult Ended) (promise : r ≡ foundInto out work (answered (greedyOf k allowance x))) where
+  abbrev answer : Answer
+  answer = topK (height (x .documents)) (x .documents) (x .entries) k allowance
+
+  outcome : r .outcome ≡ answered (endedOf answer)
+  outcome = ap (λ (y : SearchResult Ended). y .outcome) promise
+
+  slice : r .answers ≡ overwrite (flat (pairsOf answer)) out
+  slice = ap (λ (y : SearchResult Ended). y .answers) promise
+
+  -- "The shortlist answers 'done' with the full list and its need exactly when the allowance covers that need"
+  pub done-exactly : isDone (r .outcome) ≡ leb (cost k x) allowance
+  done-exactly = ap isDone outcome ∙ go (leb (cost k x) allowance)
+    where
+      go : (b : Bool) → isDone (answered (endedOf (cond b (done (full k x) (cost k x)) (spent (front k x allowance) allowance)))) ≡ b
+      go true = refl
+      go false = refl
+
+  pub greedy-done : cost k x ≤ allowance
+      → (r .outcome ≡ answered (doneWith (length (full k x)) (cost k x))) × (r .answers ≡ overwrite (flat (full k x)) out)
+  greedy-done l =
+      let e : answer ≡ done (full k x) (cost k x) = rw (le-leb (cost k x) allowance l) in
+      (outcome ∙ ap (λ (a : Answer). answered (endedOf a)) e, slice ∙ ap (λ (a : Answer). overwrite (flat (pairsOf a)) out) e)
+
+  -- "and otherwise 'spent' with the allowance and the longest front part of the full list whose own need it covers"
+  pub greedy-spent : allowance < cost k x
+      → (r .outcome ≡ answered (spentWith (length (front k x allowance)) allowance)) × (r .answers ≡ overwrite (flat (front k x allowance)) out)
+  greedy-spent l =
+      let e : answer ≡ spent (front k x allowance) allowance = rw (lt-leb (cost k x) allowance l) in
+      (outcome ∙ ap (λ (a : Answer). answered (endedOf a)) e, slice ∙ ap (λ (a : Answer). overwrite (flat (pairsOf a)) out) e)
+
+  -- "Either number is how many moves opened a block"
+  pub greedy-openings : Within (x .documents) (x .entries)
+      → figure (r .outcome) ≡ tally isOpening (searchMoves (height (x .documents)) (x .entries) k allowance)
+  greedy-openings within =
+      ap figure outcome ∙ figure-ended answer
+      ∙ openings (height (x .documents)) (x .documents) (le-pow-height (x .documents)) (x .entries) within k allowance
+
+  -- the first 4 * N numbers of the work slice are 0, and the rest is untouched
+  pub greedy-work : r .work ≡ overwrite (replicate (4 * x .documents) 0) work
+  greedy-work = ap (λ (y : SearchResult Ended). y .work) promise
+
+  pub greedy-listed : listed (r .outcome) ≡ length (pairsOf answer)
+  greedy-listed = ap listed outcome ∙ listed-ended answer
+
+-- a larger allowance never shortens the list, whatever is lent
+pub never-shorter : (k a b : ℕ) (x : Asked) (out work out' work' : List ℕ) (r s : SearchResult Ended)
+    → r ≡ foundInto out work (answered (greedyOf k a x)) → s ≡ foundInto out' work' (answered (greedyOf k b x)) → a ≤ b
+    → listed (r .outcome) ≤ listed (s .outcome)
+never-shorter k a b x out work out' work' r s p q l =
+    rw (greedy-listed k a x out work r p, greedy-listed k b x out' work' s q) (topK-mono (height (x .documents)) (x .documents) (x .entries) k a b l)
+
+-- ---- probing
+
+module _ (k : ℕ) (x : Asked) (out work : List ℕ) (r : SearchResult ℕ) (promise : r ≡ foundInto out work (answered (probingOf k x))) where
+  -- "The probing shortlist, which has no allowance, answers the full list"
+  pub probing-full : (r .outcome ≡ answered (length (full k x))) × (r .answers ≡ overwrite (flat (full k x)) out)
+  probing-full = (ap (λ (y : SearchResult ℕ). y .outcome) promise, ap (λ (y : SearchResult ℕ). y .answers) promise)
+
+  pub probing-work : r .work ≡ overwrite (replicate (4 * x .documents) 0) work
+  probing-work = ap (λ (y : SearchResult ℕ). y .work) promise
+
+-- ---- both
+
+-- both searches answer the same full list, where the allowance covers its need
+module _ (k allowance : ℕ) (x : Asked) (covers : cost k x ≤ allowance) (out work out' work' : List ℕ)
+    (g : SearchResult Ended) (greedily : g ≡ foundInto out work (answered (greedyOf k allowance x)))
+    (p : SearchResult ℕ) (probing : p ≡ foundInto out' work' (answered (probingOf k x))) where
+  -- so many pairs
+  pub both-count : (g .outcome ≡ answered (doneWith (length (full k x)) (cost k x))) × (p .outcome ≡ answered (length (full k x)))
+  both-count = (greedy-done k allowance x out work g greedily covers .0, probing-full k x out' work' p probing .0)
+
+  -- the same pairs, whatever stood in the slices
+  pub both-pairs : take (2 * length (full k x)) (g .answers) ≡ take (2 * length (full k x)) (p .answers)
+  both-pairs = seam out (g .answers) (greedy-done k allowance x out work g greedily covers .1) ∙ sym (seam out' (p .answers) (probing-full k x out' work' p probing .1))
+    where
+      seam : (before after : List ℕ) → after ≡ overwrite (flat (full k x)) before → take (2 * length (full k x)) after ≡ flat (full k x)
+      seam before after e =
+          ap₂ (λ (n : ℕ) (l : List ℕ). take n l) (sym (length-flat (full k x))) e ∙ take-append-seam (flat (full k x)) (drop (length (flat (full k x))) before)
+
+  -- the same slices, where the same were lent
+  pub both-slices : out ≡ out' → work ≡ work' → (g .answers ≡ p .answers) × (g .work ≡ p .work)
+  both-slices e f = (
+    greedy-done k allowance x out work g greedily covers .1 ∙ ap (overwrite (flat (full k x))) e ∙ sym (probing-full k x out' work' p probing .1),
+    greedy-work k allowance x out work g greedily ∙ ap (overwrite (replicate (4 * x .documents) 0)) f ∙ sym (probing-work k x out' work' p probing),
+  )
