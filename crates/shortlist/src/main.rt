@@ -1,4 +1,5 @@
 // The program of document 01: f, l, k and the allowance on standard input, then an archive; the shortlist on standard output.
+use libc::STDERR_FILENO;
 use libc::STDIN_FILENO;
 use libc::STDOUT_FILENO;
 ghost use mathlib.Core.Path.{_≡_};
@@ -21,5 +22,7 @@ fn main() {
     let mut output = [0u8; 65536];
     let got = io::read_full(STDIN_FILENO, &mut input);
     let n = put_report(&input[..got], &mut output);
-    io::write_all(STDOUT_FILENO, &output[..n]);
+    if !io::write_all(STDOUT_FILENO, &output[..n]) {
+        io::write_all(STDERR_FILENO, b"shortlist: the report was not written\n");
+    }
 }
