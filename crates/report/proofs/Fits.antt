@@ -30,7 +30,7 @@ use Rattle.archive.specs.Layout.{layoutOf, Opened}
 use Rattle.archive.proofs.Opened.{limits, documents-are, entries-size}
 use Rattle.top_k.proofs.Listed.{length-full}
 use Rattle.top_k.proofs.Demand3.{longest-front}
-use Rattle.report.specs.Report.{digitsOf, decimal, lineOf, linesOf, lastLine, doneWord, spentWord, refusedWord, answerTo, shortlistOf, textOf, report, shown}
+use Rattle.report.specs.Report.{digitsOf, decimal, lineOf, linesOf, lastLine, doneWord, spentWord, refusedWord, answerTo, shortlistOf, textOf, report, shown, written}
 
 -- ---- numbers and lines
 
@@ -262,9 +262,8 @@ length-report input = go (ltb 65536 (length input)) (ltb (length input) 56)
     go false true = length-refused 1 (omega arith)
     go false false = length-text (drop 16 input) (numberAt input 0) (numberAt input 4) (numberAt input 8) (numberAt input 12)
 
--- so the program's output shows the whole of it
-pub shown-whole : (input output : List ℕ) → 65536 ≤ length output
-    → shown (report input) output ≡ record { size = length (report input); output = overwrite (report input) output }
+-- so the program's output has room for the whole of it
+pub shown-whole : (input output : List ℕ) → 65536 ≤ length output → shown (report input) output ≡ written (report input) output
 shown-whole input output room =
     let text = report input in
     let fits = length-report input in
