@@ -16,9 +16,8 @@
 Contender scan_contender();
 extern "C" void sdsl_plain(Contender *), sdsl_popcnt(Contender *);
 
-#define ENTRIES_OF(p) extern "C" { open_fn p##_open; write_fn p##_write; read_fn p##_read; access_fn p##_access; rank_fn p##_rank; select_fn p##_select; quantile_fn p##_quantile; }
-#define PAIRS_OF(p) extern "C" { list_fn p##_list; conjunction_fn p##_conjunction; greedy_fn p##_greedy; probing_fn p##_probing; }
-#define PEER(p) ENTRIES_OF(p) PAIRS_OF(p) constexpr Operations p = {p##_open, p##_write, p##_read, p##_access, p##_rank, p##_select, p##_quantile, p##_list, p##_conjunction, p##_greedy, p##_probing};
+#define PEER(p) extern "C" { open_fn p##_open; write_fn p##_write; read_fn p##_read; access_fn p##_access; rank_fn p##_rank; select_fn p##_select; quantile_fn p##_quantile; list_fn p##_list; conjunction_fn p##_conjunction; greedy_fn p##_greedy; probing_fn p##_probing; } \
+  constexpr Operations p = {p##_open, p##_write, p##_read, p##_access, p##_rank, p##_select, p##_quantile, p##_list, p##_conjunction, p##_greedy, p##_probing};
 
 PEER(tight_nopop)
 PEER(plain_nopop)

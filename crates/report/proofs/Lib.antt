@@ -2,4 +2,5 @@
 pub mod Typing
 pub mod Decimals
 pub mod Reported
+pub mod Fits
 pub mod Examples

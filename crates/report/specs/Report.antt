@@ -79,3 +79,7 @@ pub record Shown : Type 0 where
 
 abbrev pub shown : List ℕ → List ℕ → Shown
 shown text output = record { size = min (length text) (length output); output = take (length output) (overwrite text output) }
+
+-- the same, where there is room for the whole text
+abbrev pub written : List ℕ → List ℕ → Shown
+written text output = record { size = length text; output = overwrite text output }

@@ -3,3 +3,4 @@ mod program;
 mod text;
 
 pub use program::shortlist;
+pub use program::whole;

@@ -9,7 +9,8 @@ ghost use Prim.Native.Nat.{_≤_};
 ghost use lib.ListN.{length};
 ghost use Rattle.model.proofs.Probing.Slices.{pairsIn};
 ghost use Rattle.top_k.specs.Asked.{topKOf};
-ghost use Rattle.report.specs.Report.{linesOf, answerTo, textOf, report, shown};
+ghost use Rattle.report.specs.Report.{linesOf, answerTo, textOf, report, shown, written};
+ghost use Rattle.io.specs.Counts.{Counts};
 ghost use Rattle.report.specs.Types.{Types, textIn, Listed};
 
 // A line for each of the first n pairs.
@@ -82,4 +83,12 @@ pub fn shortlist(input: &[u8], output: &mut [u8]) -> usize
         return put_last(output, 0, b"refused ", 1);
     }
     put_report(input, output)
+}
+
+// The whole of it, in an output that has room for every report (proofs/Fits).
+pub fn whole(input: &[u8], output: &mut [u8; 65536]) -> usize
+    ensures { λ r. ⌜ record { size = r; output = now (output .exit) } ≡ written (report (now (input .entry))) (now (output .entry)) ⌝ }
+    ensures { λ r. ⌜ Counts r (now (output .exit)) ⌝ }
+{
+    shortlist(input, output)
 }
