@@ -6,5 +6,6 @@ pub mod Format
 pub mod Sorting
 pub mod Priority
 pub mod Ranking
+pub mod Listed
 pub mod Greedy
 pub mod Probing

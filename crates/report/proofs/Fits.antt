@@ -28,8 +28,8 @@ use Rattle.model.proofs.Sorting.{Every, every-head, every-tail, every-cons, eve
 use Rattle.model.proofs.Ranking.{ranking-same}
 use Rattle.archive.specs.Layout.{layoutOf, Opened}
 use Rattle.archive.proofs.Opened.{limits, documents-are, entries-size}
-use Rattle.top_k.proofs.Listed.{length-full}
-use Rattle.top_k.proofs.Demand3.{longest-front}
+use Rattle.model.proofs.Listed.{length-full}
+use Rattle.top_k.proofs.Demand3.FullList.{longest-front}
 use Rattle.report.specs.Report.{digitsOf, decimal, lineOf, linesOf, lastLine, doneWord, spentWord, refusedWord, answerTo, shortlistOf, textOf, report, shown, written}
 
 -- ---- numbers and lines

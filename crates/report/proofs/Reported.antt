@@ -17,7 +17,7 @@ use Rattle.model.specs.Queries.{Pair, flat, ofTerms, inRange}
 use Rattle.model.specs.TopK.{Answer, done, spent, topK, Ended, endedOf, pairsOf, SearchResult, foundInto, greedyResult}
 use Rattle.model.proofs.Format.WriteBack.{accepted}
 use Rattle.model.proofs.Probing.Slices.{pairAt, pairsIn}
-use Rattle.top_k.proofs.Listed.{length-topK}
+use Rattle.model.proofs.Listed.{length-topK}
 use Rattle.report.specs.Report.{linesOf, lastLine, doneWord, spentWord, shortlistOf, textOf}
 use Rattle.report.specs.Types.{textIn, Listed}
 

@@ -21,11 +21,12 @@ use Rattle.archive.specs.declared.Range.the-variants as range
 use Rattle.archive.specs.Layout.{Opened}
 use Rattle.archive.specs.Ranges.{boundsIn, Inside}
 use Rattle.archive.proofs.Opened.{limits, stored, entries-are, entries-within, documents-are}
-use Rattle.top_k.specs.declared.Search.{Search}
+use Rattle.search.specs.declared.Search.{Search}
 use Rattle.top_k.specs.declared.Query.{Query}
 use Rattle.top_k.specs.declared.Query.the-variants as query
-use Rattle.top_k.specs.Searchable.{Searchable}
-use Rattle.top_k.specs.Asked.{Asked, withRoom, asked, queryWith, queryFor, entriesOf, askedIn, Ready, Posed, greedyOf, probingOf}
+use Rattle.search.specs.Searchable.{Searchable}
+use Rattle.search.specs.Sought.{Asked, entriesOf, greedyOf, probingOf}
+use Rattle.top_k.specs.Asked.{withRoom, asked, queryWith, queryFor, askedIn, Ready, Posed}
 
 -- ---- the results of model
 

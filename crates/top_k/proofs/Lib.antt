@@ -1,14 +1,3 @@
--- Laws of the waiting nodes in the work slice, and of the search that moves on them; those of probing itself are model's.
-pub mod Ranges
-pub mod Tree
-pub mod Records
-pub mod Kept
-pub mod Halves
-pub mod Made
-pub mod Opens
-pub mod Listed
-pub mod Advances
-pub mod Course
-pub mod Searching
+-- Laws of the question before the search, and demand 3.
 pub mod Demand3
 pub mod Asking

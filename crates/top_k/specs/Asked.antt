@@ -9,19 +9,19 @@ use Rattle.model.specs.Outcome.{Outcome, answered, refused, refuse, andThen}
 use Rattle.model.specs.Opening.{opened}
 use Rattle.model.specs.Queries as model
 use Rattle.model.specs.Queries.{inRange}
-use Rattle.model.specs.Rows.{height}
-use Rattle.model.specs.TopK.{Ended, doneWith, spentWith, Found, topK, endedOf, pairsOf, fullList}
+use Rattle.model.specs.TopK.{Ended, doneWith, spentWith}
 use Rattle.archive.specs.declared.Layout.{Layout}
 use Rattle.archive.specs.declared.Range.{Range}
 use Rattle.archive.specs.declared.Range.the-variants as range
-use Rattle.top_k.specs.declared.Search.{Search}
+use Rattle.search.specs.declared.Search.{Search}
 use Rattle.top_k.specs.declared.Query.{Query}
 use Rattle.top_k.specs.declared.Query.the-variants as query
 use Rattle.top_k.specs.declared.TopK.{TopK}
 use Rattle.top_k.specs.declared.TopK.the-variants as answer
 use Rattle.top_k.specs.declared.Probed.{Probed}
 use Rattle.top_k.specs.declared.Probed.the-variants as probed
-use Rattle.top_k.specs.Searchable.{Searchable, rangeOf}
+use Rattle.search.specs.Searchable.{Searchable}
+use Rattle.search.specs.Sought.{Asked, entriesOf}
 
 -- ---- the answers
 
@@ -38,11 +38,6 @@ probedOf (probed.Refused number) = refused number
 
 -- ---- the question
 
--- what is searched: the entries of a range of a library with N documents
-pub record Asked : Type 0 where
-  pub documents : ℕ
-  pub entries : List ℕ
-
 -- refusals 12 and 13, where slices of the given lengths are lent
 abbrev pub withRoom : ℕ → ℕ → ℕ → Asked → Outcome Asked
 withRoom k answers work x =
@@ -53,17 +48,6 @@ abbrev pub asked : List ℕ → model.Range → ℕ → ℕ → ℕ → Outcome 
 asked bytes r k answers work =
     andThen (opened bytes)
     (λ lib. andThen (inRange lib r) (λ xs. withRoom k answers work (record { documents = lib .documents; entries = xs })))
-
--- what is found, as `greedyResult` and `probingResult` have it
-abbrev pub greedyOf : ℕ → ℕ → Asked → Found Ended
-greedyOf k allowance x =
-    let answer = topK (height (x .documents)) (x .documents) (x .entries) k allowance in
-    record { documents = x .documents; pairs = pairsOf answer; answer = endedOf answer }
-
-abbrev pub probingOf : ℕ → Asked → Found ℕ
-probingOf k x =
-    let full = fullList (x .documents) k (x .entries) in
-    record { documents = x .documents; pairs = full; answer = length full }
 
 -- ---- the question as the code holds it
 
@@ -78,11 +62,7 @@ queryFor l k answers work (range.Entries a b) =
     queryWith k answers work (record { levels = l .levels; documents = l .documents; a = a; b = b })
 queryFor l k answers work (range.Refused number) = query.Refused number
 
--- what is searched in an archive's bytes
-abbrev pub entriesOf : List ℕ → Search → Asked
-entriesOf bytes s = record { documents = s .documents; entries = rangeOf bytes s }
-
--- the same, or the refusal
+-- what is searched in an archive's bytes, or the refusal
 abbrev pub askedIn : List ℕ → Query → Outcome Asked
 askedIn bytes (query.Over s) = answered (entriesOf bytes s)
 askedIn bytes (query.Refused number) = refused number

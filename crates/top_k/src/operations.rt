@@ -1,25 +1,26 @@
 // Top-k of an archive: the greedy search and probing, over entries and over terms, each with its refusals. A refusal writes nothing.
 // A name that ends in `_opened` is the question of an archive that was opened before.
-use crate::Ended;
 use crate::Probed;
 use crate::Query;
 use crate::TopK;
-use crate::greedy::greedy;
-use crate::probing::probing;
 use crate::question::over;
 use archive::Layout;
 use archive::Opening;
 use archive::entry_range;
 use archive::open;
 use archive::term_range;
+use greedy::Ended;
+use greedy::greedy;
+use probing::probing;
 ghost use mathlib.Core.Path.{_≡_};
 ghost use lib.ListN.{length};
 ghost use Rattle.model.specs.Outcome.{answered, andThen};
 ghost use Rattle.model.specs.Queries.{ofEntries, ofTerms};
 ghost use Rattle.model.specs.TopK.{foundInto, greedyResult, probingResult};
 ghost use Rattle.archive.specs.Layout.{Opened};
-ghost use Rattle.top_k.specs.Results.{endedIs};
-ghost use Rattle.top_k.specs.Asked.{topKOf, probedOf, Ready, askedIn, greedyOf, probingOf};
+ghost use Rattle.greedy.specs.Results.{endedIs};
+ghost use Rattle.search.specs.Sought.{greedyOf, probingOf};
+ghost use Rattle.top_k.specs.Asked.{topKOf, probedOf, Ready, askedIn};
 
 fn answer_of(e: Ended) -> TopK
     ensures { λ r. ⌜ topKOf r ≡ answered (endedIs e) ⌝ }

@@ -1,8 +1,8 @@
 // A question of top-k before the search: the range is known, and the lent slices are measured.
 use crate::Query;
-use crate::Search;
 use archive::Layout;
 use archive::Range;
+use search::Search;
 ghost use mathlib.Core.Path.{_≡_};
 ghost use Prim.Native.Nat.{_≤_, min};
 ghost use Rattle.top_k.specs.Asked.{queryWith, queryFor};

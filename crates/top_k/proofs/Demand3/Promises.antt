@@ -24,7 +24,8 @@ use Rattle.model.proofs.Format.WriteBack as opened
 use Rattle.model.proofs.Probing.Slices.{length-flat}
 use Rattle.model.proofs.Greedy.Answers.{figureOf}
 use Rattle.model.proofs.Greedy.Theorem.{openings, topK-mono}
-use Rattle.top_k.specs.Asked.{Asked, withRoom, asked, greedyOf, probingOf}
+use Rattle.search.specs.Sought.{Asked, greedyOf, probingOf}
+use Rattle.top_k.specs.Asked.{withRoom, asked}
 use Rattle.top_k.proofs.Asking.{search-asked}
 use Rattle.top_k.proofs.Demand3.FullList.{Longest, longest-covered}
 

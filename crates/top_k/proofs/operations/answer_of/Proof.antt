@@ -1,8 +1,8 @@
 -- `answer_of`: by the cases of how the search ended.
 use mathlib.Core.Path.{sym, ap}
 use Rattle.model.specs.Outcome.{answered}
-use Rattle.top_k.specs.declared.Ended.{Ended}
-use Rattle.top_k.specs.Results.{endedIs}
+use Rattle.greedy.specs.declared.Ended.{Ended}
+use Rattle.greedy.specs.Results.{endedIs}
 use borrow.Author.Needs.{needs}
 use Rattle.top_k.proofs.operations.answer_of.Statement.{statement}
 use Rattle.top_k.proofs.operations.answer_of.Tie as tie

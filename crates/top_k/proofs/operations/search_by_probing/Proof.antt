@@ -7,8 +7,9 @@ use Rattle.model.specs.Outcome.{answered, andThen}
 use Rattle.model.specs.Queries.{listing}
 use Rattle.model.specs.TopK.{ranking, SearchResult, foundInto}
 use Rattle.top_k.specs.declared.Query.{Query}
-use Rattle.top_k.specs.Searchable.{rangeOf}
-use Rattle.top_k.specs.Asked.{askedIn, Ready, probingOf}
+use Rattle.search.specs.Searchable.{rangeOf}
+use Rattle.search.specs.Sought.{probingOf}
+use Rattle.top_k.specs.Asked.{askedIn, Ready}
 use borrow.Author.Needs.{needs}
 use Rattle.top_k.proofs.operations.search_by_probing.Statement.{statement}
 use Rattle.top_k.proofs.operations.search_by_probing.Tie as tie

@@ -4,7 +4,8 @@ use lib.ListN.{length}
 use Rattle.model.specs.Outcome.{answered, andThen}
 use Rattle.model.specs.TopK.{foundInto}
 use Rattle.top_k.specs.declared.Query.{Query}
-use Rattle.top_k.specs.Asked.{askedIn, Ready, greedyOf}
+use Rattle.search.specs.Sought.{greedyOf}
+use Rattle.top_k.specs.Asked.{askedIn, Ready}
 use borrow.Author.Needs.{needs}
 use Rattle.top_k.proofs.operations.search_greedily.Statement.{statement}
 use Rattle.top_k.proofs.operations.search_greedily.Tie as tie

@@ -1,0 +1,4 @@
+-- What the contracts of greedy cite.
+pub mod Records
+pub mod Moves
+pub mod Results

@@ -1,0 +1,67 @@
+// The move of the greedy search, on the first of the waiting nodes.
+use crate::Move;
+use crate::Moved;
+use crate::node::halves;
+use frontier::Record;
+use search::Search;
+ghost use mathlib.Core.Path.{_≡_};
+ghost use Prim.Native.Nat.{_%_, _<_};
+ghost use Rattle.greedy.specs.Moves.{Searchable, Kept, Moves, First, frontierIn, nextMove, movedIs};
+
+// Opens the first of the waiting nodes, r, which is no leaf: its halves wait, unless none of the range's entries are in them.
+fn open(bytes: &[u8], s: Search, work: &mut [u32], waiting: usize, r: Record) -> usize
+    requires { ⌜ Searchable (now bytes) s ⌝ }
+    requires { ⌜ Kept (now bytes) s (now work) waiting ⌝ }
+    requires { ⌜ First (now work) waiting r ⌝ }
+    requires { ⌜ r .second % 16 < s .levels .height ⌝ }
+    ensures { λ n. ⌜ Moves (now (bytes .entry)) s (now (work .entry)) (nextMove (now (bytes .entry)) s 1 (frontierIn s (now (work .entry)) waiting) .waiting) (now (work .exit)) n ⌝ }
+{
+    let two = halves(bytes, s.levels, r);
+    let low = two.low;
+    let high = two.high;
+    if low.first == 0 {
+        frontier::replace_top(work, waiting, high);
+        return waiting;
+    }
+    if high.first == 0 {
+        frontier::replace_top(work, waiting, low);
+        return waiting;
+    }
+    frontier::open_top(work, waiting, high, low);
+    waiting + 1
+}
+
+// The move, with the allowance that is left. A leaf is named whatever is left.
+pub fn step(bytes: &[u8], s: Search, work: &mut [u32], waiting: usize, left: u32) -> Moved
+    requires { ⌜ Searchable (now bytes) s ⌝ }
+    requires { ⌜ (0 < waiting) × Kept (now bytes) s (now work) waiting ⌝ }
+    ensures { λ r. ⌜ movedIs s r (now (work .exit)) ≡ nextMove (now (bytes .entry)) s left (frontierIn s (now (work .entry)) waiting) ⌝ }
+    ensures { λ r. ⌜ Moves (now (bytes .entry)) s (now (work .entry)) (frontierIn s (now (work .exit)) (r .waiting)) (now (work .exit)) (r .waiting) ⌝ }
+{
+    let r = frontier::top(work, waiting);
+    let start = r.second / 16;
+    let depth = (r.second % 16) as usize;
+    let levels = s.levels;
+    if depth == levels.height {
+        frontier::pop(work, waiting);
+        return Moved {
+            made: Move::Names {
+                document: start,
+                count: r.first,
+            },
+            waiting: waiting - 1,
+        };
+    }
+    if left == 0 {
+        return Moved {
+            made: Move::Spent,
+            waiting,
+        };
+    }
+    let height = (levels.height - depth) as u32;
+    let n = open(bytes, s, work, waiting, r);
+    Moved {
+        made: Move::Opens { start, height },
+        waiting: n,
+    }
+}

@@ -1,0 +1,2 @@
+-- Laws of the range that is probed; those of probing itself are model's.
+pub mod Ranges

@@ -1,0 +1,2 @@
+-- What the contracts of probing cite, beside model.
+pub mod Full

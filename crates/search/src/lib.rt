@@ -1,0 +1,26 @@
+// What both searches for top-k take: the tree with the range in it, and a work slice that is cleared at the end.
+use wavelet::Levels;
+ghost use mathlib.Core.Path.{_≡_};
+ghost use Prim.Native.Nat.{_≤_};
+ghost use lib.ListN.{length, replicate};
+ghost use Rattle.model.specs.Lists.{overwrite};
+
+// What is searched: the levels of a tree over N documents, and in it the entries a up to but without b.
+pub struct Search {
+    pub levels: Levels,
+    pub documents: usize,
+    pub a: usize,
+    pub b: usize,
+}
+
+// Sets the first n numbers to 0; the rest stays.
+pub fn clear(work: &mut [u32], n: usize)
+    requires { ⌜ n ≤ length (now work) ⌝ }
+    ensures { λ r. ⌜ now (work .exit) ≡ overwrite (replicate n 0) (now (work .entry)) ⌝ }
+{
+    let mut i = 0;
+    while i < n {
+        work[i] = 0;
+        i += 1;
+    }
+}
