@@ -83,15 +83,13 @@ fn lone() {
     ask(b"N 1", &mut input, question(0, 0, 1, 0), 0, 0, 64);
 }
 
-// N and W 4,096, n 20,496: 65,536 bytes with the question. The first entry is 4,095, the last one 4,094, all others are 7.
+// N and W 4,096, n 20,496: 65,536 bytes with the question. All are under the last term, the first one is 4,095, all others are 7.
 fn longest(name: &[u8], q: Question, k: usize, mask: u8, size: usize) {
     let mut input = [0u8; 65537];
     let mut entries = [7u32; 20496];
     let mut lengths = [0u32; 4096];
     entries[0] = 4095;
-    entries[20495] = 4094;
-    lengths[0] = 20495;
-    lengths[4095] = 1;
+    lengths[4095] = 20496;
     put_archive(&mut input, &entries, &lengths, 4096);
     ask(name, &mut input, q, k, mask, size);
 }
