@@ -130,7 +130,7 @@ need-lt h xs ps = omega (arith, rw (zero-add h) at (length-inner h 0 h), go ps)
     go [] = omega arith
     go (q ∷ qs) = tally-le-length (needed xs (last q qs)) (innerNodes h)
 
--- ---- the report
+-- ---- the text of an answer
 
 -- at most 4,096 lines of 11 bytes, and a last one of 11
 length-answer : (N : ℕ) (xs : List ℕ) (k allowance : ℕ) → N ≤ 4096 → length xs ≤ 65535 → length (textOf (answered (topK (height N) N xs k allowance))) ≤ 45067

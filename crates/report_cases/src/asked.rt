@@ -10,13 +10,6 @@ pub struct Question {
     pub allowance: u8,
 }
 
-// What befalls an input: byte k changed by a mask, and then so many bytes of it.
-pub struct Damage {
-    pub k: usize,
-    pub mask: u8,
-    pub size: usize,
-}
-
 fn change(input: &mut [u8], k: usize, mask: u8) {
     if k < input.len() {
         input[k] = input[k] ^ mask;
@@ -47,12 +40,11 @@ pub fn put_archive(input: &mut [u8], entries: &[u32], lengths: &[u32], documents
     codec::write(entries, lengths, documents, &mut input[start..]);
 }
 
-// The input holds an archive, and a question of zeros.
-pub fn ask(name: &[u8], input: &mut [u8], q: Question, d: Damage) {
+// The input holds an archive, and a question of zeros. Byte k is changed by a mask, and so many bytes are asked.
+pub fn ask(name: &[u8], input: &mut [u8], q: Question, k: usize, mask: u8, size: usize) {
     let from = 0;
-    let size = d.size;
     put_question(input, q);
-    change(input, d.k, d.mask);
+    change(input, k, mask);
     if input.len() < size {
         return;
     }
