@@ -18,7 +18,9 @@ pub use numbers::put_number;
 pub use rank::rank0;
 pub use rank::rank1;
 pub use select::select0;
+pub use select::select0_near;
 pub use select::select1;
+pub use select::select1_near;
 pub use write::fill_samples;
 pub use write::put_bit;
 

@@ -7,7 +7,7 @@ use crate::numbers::number;
 use crate::numbers::word;
 ghost use mathlib.Core.Path.{_≡_};
 ghost use Prim.Native.Nat.{_+_, _*_, _≤_, _<_};
-ghost use Rattle.bit_rows.specs.Sequences.{select};
+ghost use Rattle.bit_rows.specs.Sequences.{rank, select};
 ghost use Rattle.bit_rows.specs.Bits.{bitsOf, rowBytes, sampleCount};
 ghost use Rattle.bit_rows.specs.Rows.{countBelow, ofKind, foundAt, Sampled, Reached, InWord, timesOf};
 
@@ -48,14 +48,22 @@ fn sampled(samples: &[u8], row: &[u8], n: usize, v: u8, t: usize) -> usize
     of_kind(v, 512 * t, number(samples, 4 * t))
 }
 
-// The last block before which fewer than j bits are v, by halving.
-fn block_of(samples: &[u8], row: &[u8], n: usize, v: u8, j: usize) -> usize
+// A block before which fewer than j bits are v, as `from` is: the last such one of `many` blocks, by halving.
+fn block_of(
+    samples: &[u8],
+    row: &[u8],
+    n: usize,
+    v: u8,
+    from: usize,
+    many: usize,
+    j: usize,
+) -> usize
     requires { ⌜ Sampled n (now samples) (now row) ⌝ }
-    requires { ⌜ (v < 2) × (0 < n) × (0 < j) ⌝ }
+    requires { ⌜ (v < 2) × (0 < many) × (from + many ≤ sampleCount n) × (countBelow v (now row) (512 * from) < j) ⌝ }
     ensures { λ r. ⌜ (r < sampleCount n) × (countBelow v (now (row .entry)) (512 * r) < j) ⌝ }
 {
-    let mut lo: usize = 0;
-    let mut len = (n + 511) / 512;
+    let mut lo = from;
+    let mut len = many;
     while 1 < len {
         let half = len / 2;
         let less = sampled(samples, row, n, v, lo + half) < j;
@@ -172,18 +180,21 @@ fn find_in_word(row: &[u8], n: usize, v: u8, k: usize, before: usize, j: usize) 
     find_bit(row, n, v, one.place, one.before, j)
 }
 
-fn select_kind(samples: &[u8], row: &[u8], n: usize, v: u8, j: usize) -> Found
+// The j-th bit that is v, looked for in `many` blocks first; fewer than j are before them.
+fn select_blocks(
+    samples: &[u8],
+    row: &[u8],
+    n: usize,
+    v: u8,
+    from: usize,
+    many: usize,
+    j: usize,
+) -> Found
     requires { ⌜ Sampled n (now samples) (now row) ⌝ }
-    requires { ⌜ v < 2 ⌝ }
+    requires { ⌜ (v < 2) × (0 < many) × (from + many ≤ sampleCount n) × (countBelow v (now row) (512 * from) < j) ⌝ }
     ensures { λ r. ⌜ r ≡ foundAt n (select v (bitsOf n (now (row .entry))) j) ⌝ }
 {
-    if j == 0 {
-        return Found::Nothing;
-    }
-    if n == 0 {
-        return Found::Nothing;
-    }
-    let t = block_of(samples, row, n, v, j);
+    let t = block_of(samples, row, n, v, from, many, j);
     let before = sampled(samples, row, n, v, t);
     let near = skip_words(
         row,
@@ -204,6 +215,30 @@ fn select_kind(samples: &[u8], row: &[u8], n: usize, v: u8, j: usize) -> Found
     find_bit(row, n, v, 8 * end, last.before, j)
 }
 
+fn select_kind(samples: &[u8], row: &[u8], n: usize, v: u8, j: usize) -> Found
+    requires { ⌜ Sampled n (now samples) (now row) ⌝ }
+    requires { ⌜ v < 2 ⌝ }
+    ensures { λ r. ⌜ r ≡ foundAt n (select v (bitsOf n (now (row .entry))) j) ⌝ }
+{
+    if j == 0 {
+        return Found::Nothing;
+    }
+    if n == 0 {
+        return Found::Nothing;
+    }
+    select_blocks(samples, row, n, v, 0, (n + 511) / 512, j)
+}
+
+// The same where fewer than j are below place a: the blocks of the places a up to e are looked at first.
+fn select_near(samples: &[u8], row: &[u8], n: usize, v: u8, a: usize, e: usize, j: usize) -> Found
+    requires { ⌜ Sampled n (now samples) (now row) ⌝ }
+    requires { ⌜ (v < 2) × (a < e) × (e ≤ n) × (rank v (bitsOf n (now row)) a < j) ⌝ }
+    ensures { λ r. ⌜ r ≡ foundAt n (select v (bitsOf n (now (row .entry))) j) ⌝ }
+{
+    let from = a / 512;
+    select_blocks(samples, row, n, v, from, (e + 511) / 512 - from, j)
+}
+
 // The place of the j-th one, counted from 1.
 pub fn select1(samples: &[u8], row: &[u8], n: usize, j: usize) -> Found
     requires { ⌜ Sampled n (now samples) (now row) ⌝ }
@@ -218,4 +253,21 @@ pub fn select0(samples: &[u8], row: &[u8], n: usize, j: usize) -> Found
     ensures { λ r. ⌜ r ≡ foundAt n (select 0 (bitsOf n (now (row .entry))) j) ⌝ }
 {
     select_kind(samples, row, n, 0, j)
+}
+
+// The same where fewer than j are below place a: the blocks of the places a up to e are looked at first.
+pub fn select1_near(samples: &[u8], row: &[u8], n: usize, a: usize, e: usize, j: usize) -> Found
+    requires { ⌜ Sampled n (now samples) (now row) ⌝ }
+    requires { ⌜ (a < e) × (e ≤ n) × (rank 1 (bitsOf n (now row)) a < j) ⌝ }
+    ensures { λ r. ⌜ r ≡ foundAt n (select 1 (bitsOf n (now (row .entry))) j) ⌝ }
+{
+    select_near(samples, row, n, 1, a, e, j)
+}
+
+pub fn select0_near(samples: &[u8], row: &[u8], n: usize, a: usize, e: usize, j: usize) -> Found
+    requires { ⌜ Sampled n (now samples) (now row) ⌝ }
+    requires { ⌜ (a < e) × (e ≤ n) × (rank 0 (bitsOf n (now row)) a < j) ⌝ }
+    ensures { λ r. ⌜ r ≡ foundAt n (select 0 (bitsOf n (now (row .entry))) j) ⌝ }
+{
+    select_near(samples, row, n, 0, a, e, j)
 }

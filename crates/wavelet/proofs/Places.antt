@@ -36,9 +36,9 @@ found-place n x l = go (decLe (suc x) n)
     go (no m) = rw (le-ltb x n (omega arith)) (omega arith)
 
 -- the bounds of the half that a bit leads to
-pub picked : (b : Bool) (s m e n : ℕ) → s ≤ m → m ≤ e → e ≤ n → (cond b m s ≤ cond b e m) × (cond b e m ≤ n)
-picked true s m e n a c l = (c, l)
-picked false s m e n a c l = (a, omega arith)
+pub picked : (b : Bool) (s m e : ℕ) → s ≤ m → m ≤ e → (s ≤ cond b m s) × (cond b m s ≤ cond b e m) × (cond b e m ≤ e)
+picked true s m e a c = omega arith
+picked false s m e a c = omega arith
 
 -- ---- places on the way up
 
@@ -59,11 +59,14 @@ module _ (bytes : List ℕ) (t : Levels) (j : ℕ) (l : j < t .height) where
       let n : s ≤ length (levelOf bytes t j) = rw level-length m in
       select-ge 1 (levelOf bytes t j) s (rank 1 (levelOf bytes t j) s + k + 1) n (omega arith)
 
+  pub zeros-before : (s k : ℕ) → s ≤ t .entries → rank 0 (levelOf bytes t j) s < (s - rank 1 (levelOf bytes t j) s) + k + 1
+  zeros-before s k m =
+      let z = zeros-front (levelOf bytes t j) s (row-below (t .height) j (entriesIn bytes t)) (rw level-length m) in
+      omega arith
+
   pub zero-after : (s k : ℕ) → s ≤ t .entries → s ≤ select 0 (levelOf bytes t j) ((s - rank 1 (levelOf bytes t j) s) + k + 1)
   zero-after s k m =
-      let n : s ≤ length (levelOf bytes t j) = rw level-length m in
-      let z = zeros-front (levelOf bytes t j) s (row-below (t .height) j (entriesIn bytes t)) n in
-      select-ge 0 (levelOf bytes t j) s ((s - rank 1 (levelOf bytes t j) s) + k + 1) n (omega arith)
+      select-ge 0 (levelOf bytes t j) s ((s - rank 1 (levelOf bytes t j) s) + k + 1) (rw level-length m) (zeros-before s k m)
 
 -- ---- the walk
 

@@ -13,6 +13,11 @@ abbrev pub placeOr : Found → ℕ → ℕ
 placeOr (At p) n = p
 placeOr Nothing n = n
 
+-- how many places a search answers
+abbrev pub found : Found → ℕ
+found (At p) = 1
+found Nothing = 0
+
 -- how far into the node that starts at s, in a level with the given bits, what stands k into a half stands
 abbrev pub upFromHalf : List ℕ → ℕ → ℕ → ℕ → ℕ
 upFromHalf bits s bit k = cond (eqb bit 1) (select 1 bits (rank 1 bits s + k + 1) - s) (select 0 bits ((s - rank 1 bits s) + k + 1) - s)

@@ -7,12 +7,12 @@ use crate::level::select_zero;
 use bit_rows::Found;
 ghost use mathlib.Core.Path.{_≡_};
 ghost use mathlib.Core.Bool.{cond};
-ghost use Prim.Native.Nat.{_-_, _^_, _≤_, _<_};
+ghost use Prim.Native.Nat.{_+_, _-_, _^_, _≤_, _<_};
 ghost use lib.Dec.{eqb};
 ghost use Rattle.bit_rows.specs.Sequences as sequences;
 ghost use Rattle.bit_rows.specs.Rows.{foundAt};
 ghost use Rattle.wavelet.specs.Levels.{Stored, entriesIn, levelOf};
-ghost use Rattle.wavelet.specs.Places.{placeOr, upFromHalf, offsetFrom};
+ghost use Rattle.wavelet.specs.Places.{placeOr, found, upFromHalf, offsetFrom};
 
 // The place that a search among n bits answers; n where it found nothing.
 fn place_or(f: Found, n: usize) -> usize
@@ -31,22 +31,39 @@ fn pick(bit: usize, x: usize, y: usize) -> usize
     if bit == 1 { x } else { y }
 }
 
-// How far into the node of level j that starts at `start`, with `before` ones before it, what is k into a half stands.
-fn up(bytes: &[u8], t: Levels, j: usize, start: usize, before: usize, bit: usize, k: usize) -> usize
+// How far into the node of level j from start to end, with `before` ones before it, what is k into a half stands.
+fn up(
+    bytes: &[u8],
+    t: Levels,
+    j: usize,
+    start: usize,
+    end: usize,
+    before: usize,
+    bit: usize,
+    k: usize,
+) -> usize
     requires { ⌜ Stored (now bytes) t ⌝ }
-    requires { ⌜ (j < t .height) × (start ≤ t .entries) × (k ≤ t .entries) × (before ≡ sequences.rank 1 (levelOf (now bytes) t j) start) × (before ≤ start) ⌝ }
+    requires { ⌜ (j < t .height) × (start < end) × (end ≤ t .entries) × (k ≤ t .entries) × (before ≡ sequences.rank 1 (levelOf (now bytes) t j) start) × (before ≤ start) ⌝ }
     ensures { λ r. ⌜ (r ≡ upFromHalf (levelOf (now (bytes .entry)) t j) start bit k) × (r ≤ t .entries) ⌝ }
 {
     if bit == 1 {
-        place_or(select_one(bytes, t, j, before + k + 1), t.entries) - start
+        place_or(
+            select_one(bytes, t, j, start, end, before + k + 1),
+            t.entries,
+        )
+            - start
     } else {
-        place_or(select_zero(bytes, t, j, start - before + k + 1), t.entries) - start
+        place_or(
+            select_zero(bytes, t, j, start, end, start - before + k + 1),
+            t.entries,
+        )
+            - start
     }
 }
 
 // Place k of a leaf, where it has so many entries.
 fn at_leaf(k: usize, size: usize) -> Found
-    ensures { λ r. ⌜ (r ≡ foundAt size k) × (placeOr r 0 ≤ size) ⌝ }
+    ensures { λ r. ⌜ (r ≡ foundAt size k) × (placeOr r 0 ≤ size) × (found r ≤ size) ⌝ }
 {
     if k < size {
         Found::At(k)
@@ -67,7 +84,7 @@ fn offset_of(
 ) -> Found
     requires { ⌜ Stored (now bytes) t ⌝ }
     requires { ⌜ (j ≤ t .height) × (start ≤ end) × (end ≤ t .entries) ⌝ }
-    ensures { λ r. ⌜ (r ≡ offsetFrom (levelOf (now (bytes .entry)) t) d (t .height - j) j start end k) × (placeOr r 0 ≤ t .entries) ⌝ }
+    ensures { λ r. ⌜ (r ≡ offsetFrom (levelOf (now (bytes .entry)) t) d (t .height - j) j start end k) × (placeOr r 0 ≤ t .entries) × (start + found r ≤ end) ⌝ }
 {
     if j == t.height {
         return at_leaf(k, end - start);
@@ -80,7 +97,7 @@ fn offset_of(
     let Found::At(below) = offset_of(bytes, t, d, j + 1, from, to, k) else {
         return Found::Nothing;
     };
-    Found::At(up(bytes, t, j, start, before, bit, below))
+    Found::At(up(bytes, t, j, start, end, before, bit, below))
 }
 
 // The place of the i-th entry d, i from 1.

@@ -66,19 +66,33 @@ pub fn ones_from(bytes: &[u8], t: Levels, j: usize, x: usize, c: usize, y: usize
     )
 }
 
-// The place of the i-th one of level j, and of the i-th zero.
-pub fn select_one(bytes: &[u8], t: Levels, j: usize, i: usize) -> Found
+// The place of the i-th one of level j, and of the i-th zero; fewer than i are before place a, and the places from a to e are looked at first.
+pub fn select_one(bytes: &[u8], t: Levels, j: usize, a: usize, e: usize, i: usize) -> Found
     requires { ⌜ Stored (now bytes) t ⌝ }
-    requires { ⌜ j < t .height ⌝ }
+    requires { ⌜ (j < t .height) × (a < e) × (e ≤ t .entries) × (rank 1 (levelOf (now bytes) t j) a < i) ⌝ }
     ensures { λ r. ⌜ r ≡ foundAt (t .entries) (select 1 (levelOf (now (bytes .entry)) t j) i) ⌝ }
 {
-    bit_rows::select1(samples_at(bytes, t, j), row_at(bytes, t, j), t.entries, i)
+    bit_rows::select1_near(
+        samples_at(bytes, t, j),
+        row_at(bytes, t, j),
+        t.entries,
+        a,
+        e,
+        i,
+    )
 }
 
-pub fn select_zero(bytes: &[u8], t: Levels, j: usize, i: usize) -> Found
+pub fn select_zero(bytes: &[u8], t: Levels, j: usize, a: usize, e: usize, i: usize) -> Found
     requires { ⌜ Stored (now bytes) t ⌝ }
-    requires { ⌜ j < t .height ⌝ }
+    requires { ⌜ (j < t .height) × (a < e) × (e ≤ t .entries) × (rank 0 (levelOf (now bytes) t j) a < i) ⌝ }
     ensures { λ r. ⌜ r ≡ foundAt (t .entries) (select 0 (levelOf (now (bytes .entry)) t j) i) ⌝ }
 {
-    bit_rows::select0(samples_at(bytes, t, j), row_at(bytes, t, j), t.entries, i)
+    bit_rows::select0_near(
+        samples_at(bytes, t, j),
+        row_at(bytes, t, j),
+        t.entries,
+        a,
+        e,
+        i,
+    )
 }

@@ -5,22 +5,18 @@ use lib.Dec.{ltb}
 use borrow.Author.Needs.{needs}
 use Rattle.bit_rows.specs.Bits.{sampleCount}
 use Rattle.bit_rows.specs.Rows.{countBelow}
-use Rattle.bit_rows.proofs.Bits.{count-zero}
 use Rattle.bit_rows.proofs.Words.{halve-step}
 use Rattle.bit_rows.proofs.select.block_of.Statement.{statement}
 use Rattle.bit_rows.proofs.select.block_of.Tie as tie
 
 abbrev Inv-loop : tie.InvT-loop
-Inv-loop samples row n v j lo₀ len₀ lo len = (0 < len) × (lo + len ≤ sampleCount n) × (countBelow v row (512 * lo) < j)
+Inv-loop samples row n v from many j lo₀ len₀ lo len = (0 < len) × (lo + len ≤ sampleCount n) × (countBelow v row (512 * lo) < j)
 
 abbrev μ-loop : tie.MeasureT-loop
-μ-loop samples row n v j lo₀ len₀ lo len = len
-
-add-len : tie.Need-add-len Inv-loop μ-loop
-add-len c = search needs
+μ-loop samples row n v from many j lo₀ len₀ lo len = len
 
 loop-holds : tie.Need-loop-holds Inv-loop μ-loop
-loop-holds c = omega (arith, count-zero (c .before .before .args .v) (c .before .before .args .row .now))
+loop-holds c = search needs
 
 add-sampled : tie.Need-add-sampled Inv-loop μ-loop
 add-sampled c = search needs
@@ -58,7 +54,6 @@ block-of-spec =
     (tie.spec
     Inv-loop
     μ-loop
-    add-len
     loop-holds
     add-sampled
     sampled-requires

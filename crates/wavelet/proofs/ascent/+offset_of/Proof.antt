@@ -1,9 +1,8 @@
 use borrow.Author.Needs.{needs}
-use Prim.Native.Nat.{ℕ, _+_, _-_, _/_, _%_, _^_, _<_}
+use Prim.Native.Nat.{ℕ, _+_, _-_, _/_, _%_, _^_, _≤_, _<_}
 use native.Mathlib.Omega.{arith}
 use mathlib.Core.Path.{_≡_, refl, ap, _∙_}
 use mathlib.Core.List.{List}
-use mathlib.Core.Bool.{Bool}
 use lib.Dec.{eqb}
 use Rattle.bit_rows.specs.declared.Found.the-variants.{At, Nothing}
 use Rattle.model.proofs.Wavelet.Counts.{left-le}
@@ -83,7 +82,7 @@ offset-of-returns : (t : ℕ) → offset-of-lts.Need-returns (
 offset-of-returns t c =
     let s = c .before .before .before .before in
     let g = s .args in
-    (c .at-leaf .ensures .0 ∙ offset-end (g .bytes .now) (g .t) (g .d) (g .j) (g .start) (g .end) (g .k) (c .before .if1 .taken), omega (arith, c .at-leaf .ensures .1))
+    (c .at-leaf .ensures .0 ∙ offset-end (g .bytes .now) (g .t) (g .d) (g .j) (g .start) (g .end) (g .k) (c .before .if1 .taken), omega arith, omega arith)
 
 offset-of-ones-requires : (t : ℕ) → offset-of-lts.Need-ones-requires (
   at-leaf-reads.Asked,
@@ -245,6 +244,35 @@ offset-of-add-offset-of : (t : ℕ) → offset-of-lts.Need-add-offset-of (
 ) (offset-of-at t) offset-of.Post
 offset-of-add-offset-of t c = search needs
 
+-- the half lies in the node
+offset-of-inside : (t : ℕ) (c : offset-of-lts.After-pick2 (
+  at-leaf-reads.Asked,
+  at-leaf-reads.Learnt,
+  ones-reads.Asked,
+  ones-reads.Learnt,
+  ones-from-reads.Asked,
+  ones-from-reads.Learnt,
+  pick-reads.Asked,
+  pick-reads.Learnt,
+  offset-of-below t,
+  offset-of.Post,
+  up-reads.Asked,
+  up-reads.Learnt,
+) (offset-of-at t) offset-of.Post)
+    → (c .before .before .before .before .before .before .before .before .args .start ≤ c .before .pick .result)
+    × (c .before .pick .result ≤ c .pick2 .result)
+    × (c .pick2 .result ≤ c .before .before .before .before .before .before .before .before .args .end)
+offset-of-inside t c =
+    let k = c .before .before .before in
+    let s = k .before .before .before .before .before in
+    let g = s .args in
+    let bits : List ℕ = levelOf (g .bytes .now) (g .t) (g .j) in
+    let l = s .pre .1 .1 .1 in
+    let m = left-is bits (g .start) (g .end) (k .before .ones .result) (k .ones-from .result) l (k .before .ones .ensures .0) (k .ones-from .ensures .0) in
+    let mid : ℕ = g .end - (k .ones-from .result - k .before .ones .result) in
+    rw (c .before .pick .ensures, c .pick2 .ensures)
+    (picked (eqb (g .d / 2 ^ (g .t .height - 1 - g .j) % 2) 1) (g .start) mid (g .end) (omega arith) (omega (arith, left-le bits (g .start) (g .end) l)))
+
 offset-of-offset-of-requires : (t : ℕ) → offset-of-lts.Need-offset-of-requires (
   at-leaf-reads.Asked,
   at-leaf-reads.Learnt,
@@ -260,18 +288,9 @@ offset-of-offset-of-requires : (t : ℕ) → offset-of-lts.Need-offset-of-requir
   up-reads.Learnt,
 ) (offset-of-at t) offset-of.Post
 offset-of-offset-of-requires t c κs =
-    let k = c .before .before .before in
-    let s = k .before .before .before .before .before in
-    let g = s .args in
-    let bits : List ℕ = levelOf (g .bytes .now) (g .t) (g .j) in
-    let l = s .pre .1 .1 .1 in
-    let m = left-is bits (g .start) (g .end) (k .before .ones .result) (k .ones-from .result) l (k .before .ones .ensures .0) (k .ones-from .ensures .0) in
-    let mid : ℕ = g .end - (k .ones-from .result - k .before .ones .result) in
-    let b : Bool = eqb (g .d / 2 ^ (g .t .height - 1 - g .j) % 2) 1 in
-    let p = picked b (g .start) mid (g .end) (g .t .entries) (omega arith) (omega (arith, left-le bits (g .start) (g .end) l)) (s .pre .1 .1 .2) in (
-      omega arith,
-      (s .pre .1 .0, (omega arith, rw (c .before .pick .ensures, c .pick2 .ensures) (p .0), rw (c .pick2 .ensures) (p .1))),
-    )
+    let s = c .before .before .before .before .before .before .before .before in
+    let p = offset-of-inside t c in
+    (omega arith, (s .pre .1 .0, (omega arith, p .1, omega arith)))
 
 offset-of-enum-known-below : (t : ℕ) → offset-of-lts.Need-enum-known-below (
   at-leaf-reads.Asked,
@@ -333,7 +352,47 @@ offset-of-returns-2 t c =
           ∙ (λ i. offsetFrom (levelOf (g .bytes .now) (g .t)) (g .d) (g .t .height - (g .j + 1)) (g .j + 1) (c .before .before .before .before .pick .ensures i)
           (c .before .before .before .pick2 .ensures i) (g .k))),
       omega arith,
+      omega arith,
     )
+
+-- what the half has
+offset-of-found : (t : ℕ) (c : offset-of-lts.After-known-told (
+  at-leaf-reads.Asked,
+  at-leaf-reads.Learnt,
+  ones-reads.Asked,
+  ones-reads.Learnt,
+  ones-from-reads.Asked,
+  ones-from-reads.Learnt,
+  pick-reads.Asked,
+  pick-reads.Learnt,
+  offset-of-below t,
+  offset-of.Post,
+  up-reads.Asked,
+  up-reads.Learnt,
+) (offset-of-at t) offset-of.Post) → At (c .before .below .given .0 .0) ≡ c .before .before .before .offset-of .result
+offset-of-found t c = cc
+
+-- so the node has entries
+offset-of-filled : (t : ℕ) (c : offset-of-lts.After-known-told (
+  at-leaf-reads.Asked,
+  at-leaf-reads.Learnt,
+  ones-reads.Asked,
+  ones-reads.Learnt,
+  ones-from-reads.Asked,
+  ones-from-reads.Learnt,
+  pick-reads.Asked,
+  pick-reads.Learnt,
+  offset-of-below t,
+  offset-of.Post,
+  up-reads.Asked,
+  up-reads.Learnt,
+) (offset-of-at t) offset-of.Post)
+    → c .before .before .before .before .before .before .before .before .before .before .before .before .args .start
+    < c .before .before .before .before .before .before .before .before .before .before .before .before .args .end
+offset-of-filled t c =
+    let f = rw (← (offset-of-found t c)) at (c .before .before .before .offset-of .ensures .2) in
+    let p = offset-of-inside t (c .before .before .before .before) in
+    omega arith
 
 offset-of-up-requires : (t : ℕ) → offset-of-lts.Need-up-requires (
   at-leaf-reads.Asked,
@@ -352,9 +411,8 @@ offset-of-up-requires : (t : ℕ) → offset-of-lts.Need-up-requires (
 offset-of-up-requires t c κs =
     let k = c .before .before .before .before .before .before .before in
     let s = k .before .before .before .before .before in
-    let e : c .before .before .before .offset-of .result ≡ At (c .before .below .given .0 .0) = cc in
-    let b = rw e at (c .before .before .before .offset-of .ensures .1) in
-    (s .pre .1 .0, (omega arith, omega arith, b, k .before .ones .ensures .0, k .before .ones .ensures .1))
+    let b = rw (← (offset-of-found t c)) at (c .before .before .before .offset-of .ensures .1) in
+    (s .pre .1 .0, (omega arith, offset-of-filled t c, s .pre .1 .1 .2, b, k .before .ones .ensures .0, k .before .ones .ensures .1))
 
 offset-of-returns-3 : (t : ℕ) → offset-of-lts.Need-returns-3 (
   at-leaf-reads.Asked,
@@ -377,15 +435,15 @@ offset-of-returns-3 t c =
     let bits : List ℕ = levelOf (g .bytes .now) (g .t) (g .j) in
     let l = s .pre .1 .1 .1 in
     let m = left-is bits (g .start) (g .end) (k .before .ones .result) (k .ones-from .result) l (k .before .ones .ensures .0) (k .ones-from .ensures .0) in
-    let mid : ℕ = g .end - (k .ones-from .result - k .before .ones .result) in
-    let e : At (c .before .before .below .given .0 .0) ≡ c .before .before .before .before .offset-of .result = cc in (
+    let mid : ℕ = g .end - (k .ones-from .result - k .before .ones .result) in (
       ap At (c .up .ensures .0)
           ∙ offset-some (g .bytes .now) (g .t) (g .d) (g .j) (g .start) (g .end) (g .k) (omega arith) l (g .d / 2 ^ (g .t .height - 1 - g .j) % 2) mid refl m
           (c .before .before .below .given .0 .0)
-          (e ∙ c .before .before .before .before .offset-of .ensures .0
+          (offset-of-found t (c .before) ∙ c .before .before .before .before .offset-of .ensures .0
           ∙ (λ i. offsetFrom (levelOf (g .bytes .now) (g .t)) (g .d) (g .t .height - (g .j + 1)) (g .j + 1) (c .before .before .before .before .before .before .pick .ensures i)
           (c .before .before .before .before .before .pick2 .ensures i) (g .k))),
       c .up .ensures .1,
+      omega (arith, offset-of-filled t (c .before)),
     )
 
 pub +offset-of-spec : {M : Type 1} → statement M

@@ -6,7 +6,7 @@ use mathlib.Core.Path.{ap, _∙_}
 use mathlib.Core.List.{List}
 use Rattle.bit_rows.specs.Sequences.{rank, select}
 use Rattle.wavelet.specs.Levels.{levelOf}
-use Rattle.wavelet.proofs.Places.{placed, select-inside, one-after, zero-after}
+use Rattle.wavelet.proofs.Places.{placed, select-inside, one-after, zero-after, zeros-before}
 use Rattle.wavelet.proofs.ascent.up.Statement.{statement}
 use Rattle.wavelet.proofs.ascent.up.Tie as tie
 
@@ -17,7 +17,9 @@ add-select-one-2 : tie.Need-add-select-one-2
 add-select-one-2 c = search needs
 
 select-one-requires : tie.Need-select-one-requires
-select-one-requires c κs = search needs
+select-one-requires c κs =
+    let s = c .before .before in
+    (s .pre .0, (omega arith, omega arith, omega arith, omega arith))
 
 place-or-requires : tie.Need-place-or-requires
 place-or-requires c κs = search needs
@@ -30,8 +32,8 @@ sub-result c =
     let bits : List ℕ = levelOf b (g .t) (g .j) in
     let e =
     placed b (g .t) (g .j) (s .pre .1 .0) 1 (g .before + g .k + 1) (c .before .select-one .result) (c .place-or .result) (c .before .select-one .ensures) (c .place-or .ensures)
-    ∙ ap (λ (x : ℕ). select 1 bits (x + g .k + 1)) (s .pre .1 .3) in
-    rw e (one-after b (g .t) (g .j) (s .pre .1 .0) (g .start) (g .k) (s .pre .1 .1))
+    ∙ ap (λ (x : ℕ). select 1 bits (x + g .k + 1)) (s .pre .1 .4) in
+    rw e (one-after b (g .t) (g .j) (s .pre .1 .0) (g .start) (g .k) (omega arith))
 
 sub-select-zero : tie.Need-sub-select-zero
 sub-select-zero c = search needs
@@ -43,7 +45,11 @@ add-select-zero-2 : tie.Need-add-select-zero-2
 add-select-zero-2 c = search needs
 
 select-zero-requires : tie.Need-select-zero-requires
-select-zero-requires c κs = search needs
+select-zero-requires c κs =
+    let s = c .before .before in
+    let g = s .args in
+    let z = zeros-before (g .bytes .now) (g .t) (g .j) (s .pre .1 .0) (g .start) (g .k) (omega arith) in
+    (s .pre .0, (omega arith, omega arith, omega arith, omega arith))
 
 place-or-requires-2 : tie.Need-place-or-requires-2
 place-or-requires-2 c κs = search needs
@@ -56,8 +62,8 @@ sub-result-2 c =
     let bits : List ℕ = levelOf b (g .t) (g .j) in
     let e =
     placed b (g .t) (g .j) (s .pre .1 .0) 0 ((g .start - g .before) + g .k + 1) (c .before .select-zero .result) (c .place-or2 .result) (c .before .select-zero .ensures) (c .place-or2 .ensures)
-    ∙ ap (λ (x : ℕ). select 0 bits ((g .start - x) + g .k + 1)) (s .pre .1 .3) in
-    rw e (zero-after b (g .t) (g .j) (s .pre .1 .0) (g .start) (g .k) (s .pre .1 .1))
+    ∙ ap (λ (x : ℕ). select 0 bits ((g .start - x) + g .k + 1)) (s .pre .1 .4) in
+    rw e (zero-after b (g .t) (g .j) (s .pre .1 .0) (g .start) (g .k) (omega arith))
 
 returns : tie.Need-returns
 returns c =
@@ -67,7 +73,7 @@ returns c =
     let bits : List ℕ = levelOf b (g .t) (g .j) in
     let e =
     placed b (g .t) (g .j) (s .pre .1 .0) 1 (g .before + g .k + 1) (c .before .select-one .result) (c .place-or .result) (c .before .select-one .ensures) (c .place-or .ensures)
-    ∙ ap (λ (x : ℕ). select 1 bits (x + g .k + 1)) (s .pre .1 .3) in (
+    ∙ ap (λ (x : ℕ). select 1 bits (x + g .k + 1)) (s .pre .1 .4) in (
       rw (eq-eqb (g .bit) 1 (c .before .before .if1 .taken)) (ap (λ (x : ℕ). x - g .start) e),
       omega (arith, e, select-inside b (g .t) (g .j) (s .pre .1 .0) 1 (rank 1 bits (g .start) + g .k + 1)),
     )
@@ -80,7 +86,7 @@ returns-2 c =
     let bits : List ℕ = levelOf b (g .t) (g .j) in
     let e =
     placed b (g .t) (g .j) (s .pre .1 .0) 0 ((g .start - g .before) + g .k + 1) (c .before .select-zero .result) (c .place-or2 .result) (c .before .select-zero .ensures) (c .place-or2 .ensures)
-    ∙ ap (λ (x : ℕ). select 0 bits ((g .start - x) + g .k + 1)) (s .pre .1 .3) in (
+    ∙ ap (λ (x : ℕ). select 0 bits ((g .start - x) + g .k + 1)) (s .pre .1 .4) in (
       rw (ne-eqb (g .bit) 1 (c .before .before .if1 .left)) (ap (λ (x : ℕ). x - g .start) e),
       omega (arith, e, select-inside b (g .t) (g .j) (s .pre .1 .0) 0 ((g .start - rank 1 bits (g .start)) + g .k + 1)),
     )
