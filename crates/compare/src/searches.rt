@@ -1,0 +1,182 @@
+// Top-k questions: the greedy search and probing, over entries and over terms.
+use crate::outcome::DONE;
+use crate::outcome::Outcome;
+use crate::outcome::Question;
+use crate::outcome::SPENT;
+use crate::outcome::Sizes;
+use crate::outcome::compare;
+use crate::outcome::number;
+use crate::outcome::outcome_of;
+use crate::outcome::refused;
+use crate::plain_search;
+use crate::random::below;
+use crate::random::draw;
+use crate::random::near;
+use crate::random::room;
+use crate::random::two_ends;
+use crate::slices::least;
+use crate::slices::minus;
+use crate::slices::plus;
+use crate::slices::same;
+use crate::slices::up;
+use top_k::Probed;
+use top_k::TopK;
+
+fn ended(found: TopK) -> Outcome {
+    match found {
+        TopK::Done { listed, openings } => outcome_of(DONE, listed, openings),
+        TopK::Spent { listed, allowance } => outcome_of(SPENT, listed, allowance),
+        TopK::Refused(x) => refused(x),
+    }
+}
+
+fn probed(found: Probed) -> Outcome {
+    match found {
+        Probed::Pairs(listed) => number(listed),
+        Probed::Refused(x) => refused(x),
+    }
+}
+
+fn search(archive: &[u8], q: Question, answers: &mut [u32], work: &mut [u32]) -> Outcome {
+    let kind = q.kind;
+    match kind {
+        13 => ended(top_k::greedy_entries(archive, q.a, q.b, q.c, q.d, answers, work)),
+        14 => ended(top_k::greedy_terms(archive, q.a, q.b, q.c, q.d, answers, work)),
+        15 => probed(top_k::probing_entries(archive, q.a, q.b, q.c, answers, work)),
+        _ => probed(top_k::probing_terms(archive, q.a, q.b, q.c, answers, work)),
+    }
+}
+
+// Searches with the first so many numbers of either slice lent.
+fn search_into(archive: &[u8], q: Question, answers: &mut [u32], work: &mut [u32]) -> Outcome {
+    let from = 0;
+    let m = q.answers as usize;
+    let w = q.work as usize;
+    if answers.len() < m {
+        return refused(0);
+    }
+    if work.len() < w {
+        return refused(0);
+    }
+    search(archive, q, &mut answers[from..m], &mut work[from..w])
+}
+
+// No documents, a few, all of them, or as many as 32 bits have.
+fn drawn_k(l: Sizes, random: &mut u64) -> u32 {
+    match below(random, 6) {
+        0 => 4294967295,
+        1 => near(random, l.documents),
+        _ => below(random, 9),
+    }
+}
+
+fn drawn(kind: u32, l: Sizes, random: &mut u64) -> Question {
+    let over_entries = kind % 2 == 1;
+    let most = if over_entries { l.n } else { minus(l.terms, 1) };
+    let e = two_ends(random, most);
+    let k = drawn_k(l, random);
+    Question {
+        kind,
+        a: e.first,
+        b: e.last,
+        c: k,
+        d: 4294967295,
+        answers: room(random, up(least(k, l.documents), 1)),
+        work: room(random, up(l.documents, 2)),
+    }
+}
+
+fn slices_alike(e: &[u32], f: &[u32], s: &[u32], t: &[u32]) -> bool {
+    if same(e, f) {
+        return same(s, t);
+    }
+    false
+}
+
+fn ask(
+    q: Question,
+    archive: &[u8],
+    entries: &[u32],
+    lengths: &[u32],
+    l: Sizes,
+    junk: u32,
+    made: &mut [u32; 64],
+) -> Outcome {
+    let mut answers = [junk; 8200];
+    let mut plain = [junk; 8200];
+    let mut work = [junk; 16400];
+    let mut plain_work = [junk; 16400];
+    let found = search_into(archive, q, &mut answers, &mut work);
+    let expected = plain_search::search(entries, lengths, l, q, &mut plain, &mut plain_work);
+    compare(
+        q,
+        found,
+        expected,
+        slices_alike(&answers, &plain, &work, &plain_work),
+        made,
+    );
+    expected
+}
+
+fn with_allowance(q: Question, allowance: u32) -> Question {
+    Question {
+        kind: q.kind,
+        a: q.a,
+        b: q.b,
+        c: q.c,
+        d: allowance,
+        answers: q.answers,
+        work: q.work,
+    }
+}
+
+// The same question with the openings that it needs as the allowance, with one less, and with any fewer.
+fn ask_again(
+    q: Question,
+    openings: u32,
+    archive: &[u8],
+    entries: &[u32],
+    lengths: &[u32],
+    l: Sizes,
+    random: &mut u64,
+    made: &mut [u32; 64],
+) {
+    let exact = with_allowance(q, openings);
+    let less = with_allowance(q, minus(openings, 1));
+    let fewer = with_allowance(q, below(random, openings));
+    ask(exact, archive, entries, lengths, l, draw(random), made);
+    ask(less, archive, entries, lengths, l, draw(random), made);
+    ask(fewer, archive, entries, lengths, l, draw(random), made);
+}
+
+fn ask_drawn(
+    kind: u32,
+    archive: &[u8],
+    entries: &[u32],
+    lengths: &[u32],
+    l: Sizes,
+    random: &mut u64,
+    made: &mut [u32; 64],
+) {
+    let q = drawn(kind, l, random);
+    let o = ask(q, archive, entries, lengths, l, draw(random), made);
+    if o.what == DONE {
+        ask_again(q, o.y, archive, entries, lengths, l, random, made);
+    }
+}
+
+pub fn searches(
+    times: u32,
+    archive: &[u8],
+    entries: &[u32],
+    lengths: &[u32],
+    l: Sizes,
+    random: &mut u64,
+    made: &mut [u32; 64],
+) {
+    let mut i = 0;
+    while i < times {
+        ask_drawn(13 + i % 4, archive, entries, lengths, l, random, made);
+        i += 1;
+    }
+}
