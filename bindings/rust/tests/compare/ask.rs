@@ -1,5 +1,6 @@
 //! Questions put through the crate: in vectors of its own, and in slices that we lend.
 use crate::questions::{Answer, Question, Span};
+use crate::sys;
 use masuvelior::{Archive, Counted, Ended, Over, Refusal};
 
 /// Slices to lend, full of numbers that differ from each other.
@@ -106,7 +107,7 @@ fn numbers(archive: &Archive, question: &Question) -> Result<Answer, Refusal> {
         Question::Access { place } => vec![archive.access(place)?],
         Question::Rank { document, place } => vec![archive.rank(document, place)?],
         Question::Select { document, j } => {
-            vec![archive.select(document, j)?.unwrap_or(u32::MAX)]
+            vec![archive.select(document, j)?.unwrap_or(sys::NONE)]
         }
         Question::Quantile { span, r } => vec![archive.quantile(over(span), r)?],
         Question::RangeOfTerms { first, last } => {

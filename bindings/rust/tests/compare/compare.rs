@@ -1,7 +1,7 @@
 //! One question, or one slice of bytes, put in every way and held against the model.
 use crate::ask::{lent, whole, Scratch};
 use crate::library::{open, Library};
-use crate::questions::{answer, Lent, Question, ROOM};
+use crate::questions::{answer, Answer, Lent, Question, ROOM};
 use crate::quick;
 use crate::random::{self, Random};
 use crate::raw::{ask, Form, UNWRITTEN};
@@ -36,10 +36,11 @@ pub fn compare(
 ) {
     compare_whole(archive, library, question);
     compare_lent(archive, library, question, slices);
+    let right = answer(library, question, slices);
     for form in [Form::Checked, Form::Opened] {
-        let number = compare_raw(archive.bytes(), form, Ok(library), question, slices);
-        met.insert(number);
+        compare_raw(archive.bytes(), form, question, slices, &right);
     }
+    met.insert(right.err().unwrap_or(0));
 }
 
 fn compare_whole(archive: &Archive, library: &Library, question: &Question) {
@@ -76,37 +77,35 @@ fn compare_lent(archive: &Archive, library: &Library, question: &Question, slice
     );
 }
 
-/// `held` is what the model says of the bytes: the library in them, or why there is none. The answer is what the function answered.
-pub fn compare_raw(
+/// Puts a question through its C name: the right number, and everything that it may write.
+fn compare_raw(
     bytes: &[u8],
     form: Form,
-    held: Result<&Library, u32>,
     question: &Question,
     slices: Lent,
-) -> u32 {
-    let right = held.and_then(|library| answer(library, question, slices));
+    right: &Result<Answer, u32>,
+) {
     let mut scratch = Scratch::new(slices.first, slices.second);
-    let after = scratch.after(&right);
-    let mut right_out = UNWRITTEN;
-    if let Ok(right) = &right {
-        right_out[..right.numbers.len()].copy_from_slice(&right.numbers);
+    let after = scratch.after(right);
+    let mut out_after = UNWRITTEN;
+    if let Ok(right) = right {
+        out_after[..right.numbers.len()].copy_from_slice(&right.numbers);
     }
     let mut out = UNWRITTEN;
     let number = ask(bytes, form, question, &mut scratch, &mut out);
-    let right_number = right.err().unwrap_or(0);
+    let right_number = right.as_ref().err().copied().unwrap_or(0);
     assert_eq!(
         number, right_number,
-        "{question:?}, {form:?}, lent {slices:?}, of {held:?}"
+        "{question:?}, {form:?}, lent {slices:?}, of {bytes:?}"
     );
     assert_eq!(
-        out, right_out,
-        "{question:?}, {form:?}, lent {slices:?}, of {held:?}"
+        out, out_after,
+        "{question:?}, {form:?}, lent {slices:?}, of {bytes:?}"
     );
     assert_eq!(
         scratch, after,
-        "{question:?}, {form:?}, lent {slices:?}, of {held:?}"
+        "{question:?}, {form:?}, lent {slices:?}, of {bytes:?}"
     );
-    number
 }
 
 /// Puts so many random questions to the archive.
@@ -152,7 +151,7 @@ fn refused(random: &mut Random, bytes: &[u8], right: u32) {
     };
     let question = random::question(random, &none);
     let slices = random::lent(random, needed(&none, &question));
-    compare_raw(bytes, Form::Checked, Err(right), &question, slices);
+    compare_raw(bytes, Form::Checked, &question, slices, &Err(right));
 }
 
 /// That a test met all of these numbers. A short run need not.

@@ -86,7 +86,7 @@ fn damage(random: &mut Random, bytes: &mut Vec<u8>, terms: u32) {
 fn random_damage() {
     let mut random = Random::new(23);
     let mut met = Met::new();
-    for _ in 0..rounds(6_000) {
+    for _ in 0..rounds(20_000) {
         let (n, documents, terms) = (random.below(40), 1 + random.below(9), 1 + random.below(4));
         let mut bytes = archive(&library(&mut random, n, documents, terms));
         while bytes.len() >= 40 + 8 * terms as usize {
@@ -106,7 +106,7 @@ fn random_damage() {
 fn entries_that_are_no_documents() {
     let mut random = Random::new(24);
     let mut met = Met::new();
-    for _ in 0..rounds(600) {
+    for _ in 0..rounds(2_000) {
         let whole = 1 << (1 + random.below(5));
         let n = random.below(12);
         let mut bytes = archive(&library(&mut random, n, whole, 2));
@@ -123,7 +123,7 @@ fn entries_that_are_no_documents() {
 fn random_bytes() {
     let mut random = Random::new(25);
     let mut met = Met::new();
-    for _ in 0..rounds(3_000) {
+    for _ in 0..rounds(6_000) {
         let n = random.below(40);
         let mut bytes = archive(&library(&mut random, n, 5, 2));
         let right = *random.pick(&[0, 4, 8, 12, 16, 40, 56, 64]);

@@ -83,27 +83,29 @@ pub fn archive(library: &Library) -> Vec<u8> {
     bytes
 }
 
-/// The writer into a target of so many bytes: what it writes, or its refusal.
-pub fn write(library: &Library, target_length: usize) -> Result<Vec<u8>, u32> {
+/// The writer into a target that is long enough: what it writes, or its refusal.
+pub fn write(library: &Library) -> Result<Vec<u8>, u32> {
     let (n, terms) = (library.entries.len() as u64, library.lengths.len() as u64);
     if !within_limits(n, u64::from(library.documents), terms) {
         return Err(14);
     }
-    if library
-        .entries
-        .iter()
-        .any(|entry| *entry >= library.documents)
-    {
+    let outside = |entry: &u32| *entry >= library.documents;
+    if library.entries.iter().any(outside) {
         return Err(15);
     }
     if library.lengths.iter().map(|x| u64::from(*x)).sum::<u64>() != n {
         return Err(16);
     }
-    let bytes = archive(library);
-    if target_length < bytes.len() {
-        return Err(17);
+    Ok(archive(library))
+}
+
+/// The same into a target of so many bytes.
+pub fn fitting(written: &Result<Vec<u8>, u32>, target_length: usize) -> Result<&[u8], u32> {
+    match written {
+        Ok(bytes) if target_length < bytes.len() => Err(17),
+        Ok(bytes) => Ok(bytes),
+        Err(refusal) => Err(*refusal),
     }
-    Ok(bytes)
 }
 
 /// The check on opening: the library, or the refusal.

@@ -20,7 +20,7 @@ impl Random {
 
     /// A number from 0 up to but without the bound; 0 where that is 0.
     pub fn below(&mut self, bound: u32) -> u32 {
-        (u64::from(self.next()) * u64::from(bound) >> 32) as u32
+        ((u64::from(self.next()) * u64::from(bound)) >> 32) as u32
     }
 
     pub fn one_in(&mut self, times: u32) -> bool {

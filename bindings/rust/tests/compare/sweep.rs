@@ -78,6 +78,9 @@ fn every_question_of_small_libraries() {
         (7, 8, 1),
         (8, 4, 3),
         (9, 7, 4),
+        (10, 5, 2),
+        (11, 16, 5),
+        (12, 2, 2),
     ];
     for (n, documents, terms) in sizes {
         let library = library(&mut random, n, documents, terms);
@@ -97,7 +100,7 @@ fn every_question_of_small_libraries() {
 fn random_questions_of_small_libraries() {
     let mut random = Random::new(2);
     let mut met = Met::new();
-    for _ in 0..rounds(1_000) {
+    for _ in 0..rounds(2_000) {
         let (n, documents) = (random.below(70), 1 + random.below(40));
         let terms = 1 + random.below(12);
         let library = library(&mut random, n, documents, terms);
@@ -137,15 +140,14 @@ fn random_questions_of_large_libraries() {
     let sizes = [
         (65_535, 4_096, 4_096),
         (65_535, 1, 4_096),
-        (65_535, 2_500, 1),
-        (65_024, 3, 200),
+        (65_024, 2_500, 1),
         (40_000, 4_095, 16),
     ];
-    let sizes = if quick() { &sizes[4..] } else { &sizes[..] };
+    let sizes = if quick() { &sizes[3..] } else { &sizes[..] };
     for (n, documents, terms) in sizes {
         let library = library(&mut random, *n, *documents, *terms);
         with_archive(&mut random, &library, |random, archive| {
-            compare_random(random, archive, &library, rounds(25), &mut met);
+            compare_random(random, archive, &library, rounds(20), &mut met);
         });
     }
     assert_met(&met, 0..=0);

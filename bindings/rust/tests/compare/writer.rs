@@ -2,15 +2,14 @@
 use crate::compare::{assert_met, Met};
 use crate::library::{self, Library};
 use crate::random::{self, Random};
-use crate::rounds;
+use crate::{quick, rounds};
 use masuvelior::{archive_length, write, write_into, Archive, Refusal};
 
 /// Writes into a target of this length that is full of other bytes: the model's outcome, and the rest untouched.
-fn compare_target(library: &Library, target_length: usize, met: &mut Met) {
-    let right = library::write(library, target_length);
-    let mut target: Vec<u8> = (0..=255).rev().cycle().take(target_length).collect();
+fn compare_target(library: &Library, right: Result<&[u8], u32>, length: usize, met: &mut Met) {
+    let mut target: Vec<u8> = (0..=255).rev().cycle().take(length).collect();
     let mut after = target.clone();
-    if let Ok(bytes) = &right {
+    if let Ok(bytes) = right {
         after[..bytes.len()].copy_from_slice(bytes);
     }
     let Library {
@@ -20,12 +19,8 @@ fn compare_target(library: &Library, target_length: usize, met: &mut Met) {
     } = library;
     let got = write_into(entries, lengths, *documents, &mut target).map_err(Refusal::number);
     met.insert(got.err().unwrap_or(0));
-    assert_eq!(
-        got,
-        right.map(|bytes| bytes.len()),
-        "{library:?} into {target_length}"
-    );
-    assert!(target == after, "{library:?} into {target_length}");
+    assert_eq!(got, right.map(<[u8]>::len), "{library:?} into {length}");
+    assert!(target == after, "{library:?} into {length}");
 }
 
 /// Writes a library in each way, and reads it back.
@@ -35,7 +30,7 @@ fn compare_writer(library: &Library, met: &mut Met) {
         lengths,
         documents,
     } = library;
-    let right = library::write(library, usize::MAX);
+    let right = library::write(library);
     let got = write(entries, lengths, *documents).map_err(Refusal::number);
     assert_eq!(got, right, "{library:?}");
     if let Ok(bytes) = &got {
@@ -46,7 +41,7 @@ fn compare_writer(library: &Library, met: &mut Met) {
     }
     let length = got.map_or(100, |bytes| bytes.len());
     for target in [0, length - 1, length, length + 1, length + 100] {
-        compare_target(library, target, met);
+        compare_target(library, library::fitting(&right, target), target, met);
     }
 }
 
@@ -98,6 +93,9 @@ fn limits_of_the_writer() {
         (1, 0, 1),
         (0, 1, 0),
     ] {
+        if quick() && n == 65_535 {
+            continue;
+        }
         let mut lengths = vec![0; terms];
         if let Some(last) = lengths.last_mut() {
             *last = n;
