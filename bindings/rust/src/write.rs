@@ -27,7 +27,7 @@ pub fn write(entries: &[u32], lengths: &[u32], documents: u32) -> Result<Vec<u8>
 /// Writes the archive into the front of `target`, whose rest is untouched, and answers its length.
 ///
 /// # Errors
-/// As [`write`], and 17 where the target is shorter than the archive.
+/// As [`write()`], and 17 where the target is shorter than the archive.
 pub fn write_into(
     entries: &[u32],
     lengths: &[u32],

@@ -4,6 +4,7 @@
 mod ask;
 mod compare;
 mod damage;
+mod header;
 mod library;
 mod print;
 mod questions;
