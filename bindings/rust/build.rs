@@ -25,9 +25,7 @@ fn main() {
 fn folder() -> PathBuf {
     match env::var_os("MASUVELIOR_LIB_DIR") {
         Some(folder) => PathBuf::from(folder),
-        None => {
-            PathBuf::from(env::var_os("CARGO_MANIFEST_DIR").expect("cargo sets CARGO_MANIFEST_DIR"))
-                .join("../../target/staticlib")
-        }
+        None => PathBuf::from(env::var_os("CARGO_MANIFEST_DIR").expect("cargo sets CARGO_MANIFEST_DIR"))
+            .join("../../target/staticlib"),
     }
 }

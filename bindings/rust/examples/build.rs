@@ -32,10 +32,7 @@ fn main() -> Result<(), Box<dyn Error>> {
     let numbers: BTreeMap<&str, u32> = terms.keys().copied().zip(0..).collect();
     println!("both 'harbour' and 'tide':");
     for found in archive.conjunction(&[numbers["harbour"], numbers["tide"]])? {
-        println!(
-            "  {} times: {}",
-            found.count, TEXTS[found.document as usize]
-        );
+        println!("  {} times: {}", found.count, TEXTS[found.document as usize]);
     }
 
     // Neighbours in the dictionary are one range: 'storm' to 'tide' has 'the' between them.

@@ -32,6 +32,7 @@
 mod archive;
 mod counted;
 mod per_mille;
+mod questions;
 mod range;
 mod refusal;
 mod sys;

@@ -38,12 +38,7 @@ impl Archive<'_> {
     ///
     /// # Errors
     /// 11 where the range is crossed or reaches past the archive.
-    pub fn greedy(
-        &self,
-        over: Over,
-        k: u32,
-        allowance: u32,
-    ) -> Result<(Vec<Counted>, Ended), Refusal> {
+    pub fn greedy(&self, over: Over, k: u32, allowance: u32) -> Result<(Vec<Counted>, Ended), Refusal> {
         let mut answers = room(self.answer_length(k));
         let mut work = vec![0; self.work_length()];
         let (found, ended) = self.greedy_into(over, k, allowance, &mut answers, &mut work)?;
@@ -158,18 +153,7 @@ impl Archive<'_> {
         let mut listed = 0;
         // SAFETY: POINTERS, WRITTEN and CONST by the references; OPENED by `Archive::open`, the only maker of an `Archive`.
         let answer = unsafe {
-            ask(
-                archive,
-                archive_length,
-                from,
-                to,
-                k,
-                pairs,
-                pairs_length,
-                work.as_mut_ptr(),
-                work.len(),
-                &mut listed,
-            )
+            ask(archive, archive_length, from, to, k, pairs, pairs_length, work.as_mut_ptr(), work.len(), &mut listed)
         };
         outcome(answer, ())?;
         Ok(&answers[..listed as usize])

@@ -28,12 +28,7 @@ pub fn write(entries: &[u32], lengths: &[u32], documents: u32) -> Result<Vec<u8>
 ///
 /// # Errors
 /// As [`write()`], and 17 where the target is shorter than the archive.
-pub fn write_into(
-    entries: &[u32],
-    lengths: &[u32],
-    documents: u32,
-    target: &mut [u8],
-) -> Result<usize, Refusal> {
+pub fn write_into(entries: &[u32], lengths: &[u32], documents: u32, target: &mut [u8]) -> Result<usize, Refusal> {
     let mut length = 0;
     // SAFETY: POINTERS, WRITTEN and CONST by the references; `length` is our own.
     let answer = unsafe {
@@ -58,9 +53,7 @@ pub fn write_into(
 pub fn archive_length(entries: usize, documents: u32, terms: usize) -> Result<usize, Refusal> {
     let mut length = 0;
     // SAFETY: POINTERS and WRITTEN by the reference to `length`, which is our own.
-    let answer = unsafe {
-        sys::masuvelior_archive_length(number(entries), documents, number(terms), &mut length)
-    };
+    let answer = unsafe { sys::masuvelior_archive_length(number(entries), documents, number(terms), &mut length) };
     outcome(answer, length)
 }
 

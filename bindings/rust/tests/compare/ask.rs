@@ -14,10 +14,7 @@ impl Scratch {
     /// So many numbers in each.
     pub fn new(first: usize, second: usize) -> Scratch {
         let junk = |from: u32, length: usize| (from..).take(length).collect();
-        Scratch {
-            first: junk(0xA5A5_0000, first),
-            second: junk(0x5A5A_0000, second),
-        }
+        Scratch { first: junk(0xA5A5_0000, first), second: junk(0x5A5A_0000, second) }
     }
 
     /// What must be in them after this answer: its fronts, and the rest as it was; all as it was after a refusal.
@@ -49,12 +46,10 @@ pub fn whole(archive: &Archive, question: &Question) -> Result<Answer, u32> {
                 second,
             });
         }
-        Question::Greedy { span, k, allowance } => archive
-            .greedy(over(*span), *k, *allowance)
-            .map(|(found, ended)| greedy(&found, ended)),
-        Question::Probing { span, k } => {
-            archive.probing(over(*span), *k).map(|found| pairs(&found))
+        Question::Greedy { span, k, allowance } => {
+            archive.greedy(over(*span), *k, *allowance).map(|(found, ended)| greedy(&found, ended))
         }
+        Question::Probing { span, k } => archive.probing(over(*span), *k).map(|found| pairs(&found)),
         Question::List { span } => archive.list(over(*span)).map(|found| pairs(&found)),
         Question::Conjunction { terms } => archive.conjunction(terms).map(|found| pairs(&found)),
         _ => numbers(archive, question),
@@ -72,11 +67,7 @@ pub fn lent(archive: &Archive, question: &Question, scratch: &mut Scratch) -> Re
             second: scratch.second[..archive.terms() as usize].to_vec(),
         });
     }
-    let mut lent: Vec<Counted> = scratch
-        .first
-        .chunks_exact(2)
-        .map(|pair| Counted::from((pair[0], pair[1])))
-        .collect();
+    let mut lent: Vec<Counted> = scratch.first.chunks_exact(2).map(|pair| Counted::from((pair[0], pair[1]))).collect();
     let answer = lent_pairs(archive, question, &mut lent, &mut scratch.second);
     scratch.first = flat(&lent);
     answer.map_err(Refusal::number)
@@ -91,12 +82,10 @@ fn lent_pairs(
     match question {
         Question::List { span } => archive.list_into(over(*span), lent).map(pairs),
         Question::Conjunction { terms } => archive.conjunction_into(terms, lent).map(pairs),
-        Question::Greedy { span, k, allowance } => archive
-            .greedy_into(over(*span), *k, *allowance, lent, work)
-            .map(|(found, ended)| greedy(found, ended)),
-        Question::Probing { span, k } => {
-            archive.probing_into(over(*span), *k, lent, work).map(pairs)
+        Question::Greedy { span, k, allowance } => {
+            archive.greedy_into(over(*span), *k, *allowance, lent, work).map(|(found, ended)| greedy(found, ended))
         }
+        Question::Probing { span, k } => archive.probing_into(over(*span), *k, lent, work).map(pairs),
         _ => numbers(archive, question),
     }
 }
@@ -116,25 +105,15 @@ fn numbers(archive: &Archive, question: &Question) -> Result<Answer, Refusal> {
         }
         _ => unreachable!("not of numbers: {question:?}"),
     };
-    Ok(Answer {
-        numbers,
-        ..Answer::default()
-    })
+    Ok(Answer { numbers, ..Answer::default() })
 }
 
 fn flat(found: &[Counted]) -> Vec<u32> {
-    found
-        .iter()
-        .flat_map(|pair| [pair.document, pair.count])
-        .collect()
+    found.iter().flat_map(|pair| [pair.document, pair.count]).collect()
 }
 
 fn pairs(found: &[Counted]) -> Answer {
-    Answer {
-        numbers: vec![found.len() as u32],
-        first: flat(found),
-        second: vec![],
-    }
+    Answer { numbers: vec![found.len() as u32], first: flat(found), second: vec![] }
 }
 
 fn greedy(found: &[Counted], ended: Ended) -> Answer {

@@ -18,22 +18,14 @@ pub fn needed(library: &Library, question: &Question) -> Lent {
     let (first, second) = match question {
         Question::Read => (library.entries.len(), library.lengths.len()),
         Question::List { .. } | Question::Conjunction { .. } => (2 * documents, 0),
-        Question::Greedy { k, .. } | Question::Probing { k, .. } => {
-            (2 * documents.min(*k as usize), 4 * documents)
-        }
+        Question::Greedy { k, .. } | Question::Probing { k, .. } => (2 * documents.min(*k as usize), 4 * documents),
         _ => (0, 0),
     };
     Lent { first, second }
 }
 
 /// Puts a question to an archive of this library in every way.
-pub fn compare(
-    archive: &Archive,
-    library: &Library,
-    question: &Question,
-    slices: Lent,
-    met: &mut Met,
-) {
+pub fn compare(archive: &Archive, library: &Library, question: &Question, slices: Lent, met: &mut Met) {
     compare_whole(archive, library, question);
     compare_lent(archive, library, question, slices);
     let right = answer(library, question, slices);
@@ -48,11 +40,7 @@ fn compare_whole(archive: &Archive, library: &Library, question: &Question) {
     if let (Ok(right), false) = (&mut right, *question == Question::Read) {
         right.second.clear();
     }
-    assert_eq!(
-        whole(archive, question),
-        right,
-        "{question:?} of {library:?}"
-    );
+    assert_eq!(whole(archive, question), right, "{question:?} of {library:?}");
 }
 
 fn compare_lent(archive: &Archive, library: &Library, question: &Question, slices: Lent) {
@@ -60,10 +48,7 @@ fn compare_lent(archive: &Archive, library: &Library, question: &Question, slice
     if *question != Question::Read {
         scratch.first.truncate(slices.first / 2 * 2); // pairs are lent
     }
-    let size = Lent {
-        first: scratch.first.len(),
-        second: scratch.second.len(),
-    };
+    let size = Lent { first: scratch.first.len(), second: scratch.second.len() };
     let mut right = answer(library, question, size);
     let after = scratch.after(&right);
     if let (Ok(right), false) = (&mut right, *question == Question::Read) {
@@ -71,20 +56,11 @@ fn compare_lent(archive: &Archive, library: &Library, question: &Question, slice
     }
     let got = lent(archive, question, &mut scratch);
     assert_eq!(got, right, "{question:?}, lent {slices:?}, of {library:?}");
-    assert_eq!(
-        scratch, after,
-        "{question:?}, lent {slices:?}, of {library:?}"
-    );
+    assert_eq!(scratch, after, "{question:?}, lent {slices:?}, of {library:?}");
 }
 
 /// Puts a question through its C name: the right number, and everything that it may write.
-fn compare_raw(
-    bytes: &[u8],
-    form: Form,
-    question: &Question,
-    slices: Lent,
-    right: &Result<Answer, u32>,
-) {
+fn compare_raw(bytes: &[u8], form: Form, question: &Question, slices: Lent, right: &Result<Answer, u32>) {
     let mut scratch = Scratch::new(slices.first, slices.second);
     let after = scratch.after(right);
     let mut out_after = UNWRITTEN;
@@ -94,28 +70,13 @@ fn compare_raw(
     let mut out = UNWRITTEN;
     let number = ask(bytes, form, question, &mut scratch, &mut out);
     let right_number = right.as_ref().err().copied().unwrap_or(0);
-    assert_eq!(
-        number, right_number,
-        "{question:?}, {form:?}, lent {slices:?}, of {bytes:?}"
-    );
-    assert_eq!(
-        out, out_after,
-        "{question:?}, {form:?}, lent {slices:?}, of {bytes:?}"
-    );
-    assert_eq!(
-        scratch, after,
-        "{question:?}, {form:?}, lent {slices:?}, of {bytes:?}"
-    );
+    assert_eq!(number, right_number, "{question:?}, {form:?}, lent {slices:?}, of {bytes:?}");
+    assert_eq!(out, out_after, "{question:?}, {form:?}, lent {slices:?}, of {bytes:?}");
+    assert_eq!(scratch, after, "{question:?}, {form:?}, lent {slices:?}, of {bytes:?}");
 }
 
 /// Puts so many random questions to the archive.
-pub fn compare_random(
-    random: &mut Random,
-    archive: &Archive,
-    library: &Library,
-    questions: usize,
-    met: &mut Met,
-) {
+pub fn compare_random(random: &mut Random, archive: &Archive, library: &Library, questions: usize, met: &mut Met) {
     for _ in 0..questions {
         let question = random::question(random, library);
         let slices = random::lent(random, needed(library, &question));
@@ -144,11 +105,7 @@ pub fn compare_bytes(random: &mut Random, bytes: &[u8], questions: usize, met: &
 
 /// A random question to bytes that are no archive.
 fn refused(random: &mut Random, bytes: &[u8], right: u32) {
-    let none = Library {
-        entries: vec![0; 4],
-        lengths: vec![4],
-        documents: 4,
-    };
+    let none = Library { entries: vec![0; 4], lengths: vec![4], documents: 4 };
     let question = random::question(random, &none);
     let slices = random::lent(random, needed(&none, &question));
     compare_raw(bytes, Form::Checked, &question, slices, &Err(right));

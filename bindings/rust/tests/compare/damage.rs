@@ -14,13 +14,7 @@ fn put(bytes: &mut [u8], at: usize, number: u32) {
 fn every_byte_changed() {
     let mut random = Random::new(21);
     let mut met = Met::new();
-    for (n, documents, terms, values) in [
-        (8, 4, 3, 255),
-        (0, 3, 2, 8),
-        (3, 1, 1, 8),
-        (13, 6, 2, 40),
-        (520, 5, 3, 4),
-    ] {
+    for (n, documents, terms, values) in [(8, 4, 3, 255), (0, 3, 2, 8), (3, 1, 1, 8), (13, 6, 2, 40), (520, 5, 3, 4)] {
         let library = library(&mut random, n, documents, terms);
         let right = archive(&library);
         for at in 0..right.len() {

@@ -32,31 +32,19 @@ fn parameter(c: &str) -> String {
 fn declaration(c: &str) -> Option<String> {
     let (_, function) = c.split_once("uint32_t masuvelior_")?;
     let (name, parameters) = function.trim_end().strip_suffix(')')?.split_once('(')?;
-    let parameters: Vec<String> = parameters
-        .split(',')
-        .map(|c| parameter(&c.split_whitespace().collect::<Vec<_>>().join(" ")))
-        .collect();
+    let parameters: Vec<String> =
+        parameters.split(',').map(|c| parameter(&c.split_whitespace().collect::<Vec<_>>().join(" "))).collect();
     Some(format!("masuvelior_{name}({});", parameters.join(", ")))
 }
 
 #[test]
 fn declared_as_in_the_header() {
     let functions: Vec<String> = code().split(';').filter_map(declaration).collect();
-    let declared: Vec<&str> = DECLARED
-        .lines()
-        .map(str::trim)
-        .filter(|line| line.starts_with("masuvelior_"))
-        .collect();
+    let declared: Vec<&str> = DECLARED.lines().map(str::trim).filter(|line| line.starts_with("masuvelior_")).collect();
     for function in &functions {
-        assert!(
-            declared.contains(&function.as_str()),
-            "not declared: {function}"
-        );
+        assert!(declared.contains(&function.as_str()), "not declared: {function}");
     }
     assert_eq!(declared.len(), functions.len());
-    assert_eq!(
-        functions.len(),
-        code().matches("uint32_t masuvelior_").count()
-    );
+    assert_eq!(functions.len(), code().matches("uint32_t masuvelior_").count());
     assert!(functions.len() >= 32);
 }

@@ -70,10 +70,7 @@ pub fn archive(library: &Library) -> Vec<u8> {
     }
     let rows = rows(&library.entries, height(library.documents));
     numbers.extend(rows.iter().flat_map(|row| samples(row)));
-    let mut bytes: Vec<u8> = numbers
-        .iter()
-        .flat_map(|number| (*number as u32).to_le_bytes())
-        .collect();
+    let mut bytes: Vec<u8> = numbers.iter().flat_map(|number| (*number as u32).to_le_bytes()).collect();
     for row in &rows {
         for eight in row.chunks(8) {
             let weight = |(i, bit): (usize, &bool)| u8::from(*bit) << i;
@@ -133,9 +130,7 @@ pub fn open(bytes: &[u8]) -> Result<Library, u32> {
     if bytes.len() as u64 != pairs[2].0 + pairs[2].1 {
         return Err(5);
     }
-    let table: Vec<(u64, u64)> = (0..terms)
-        .map(|t| (number(40 + 8 * t), number(44 + 8 * t)))
-        .collect();
+    let table: Vec<(u64, u64)> = (0..terms).map(|t| (number(40 + 8 * t), number(44 + 8 * t))).collect();
     let mut end = 0;
     for (start, length) in &table {
         if *start != end {
@@ -148,9 +143,7 @@ pub fn open(bytes: &[u8]) -> Result<Library, u32> {
     }
     let stored = &bytes[pairs[2].0 as usize..];
     let (rows, unused) = bits(stored, n as usize, height(documents));
-    let given: Vec<u64> = (0..pairs[1].1 / 4)
-        .map(|i| number(pairs[1].0 + 4 * i))
-        .collect();
+    let given: Vec<u64> = (0..pairs[1].1 / 4).map(|i| number(pairs[1].0 + 4 * i)).collect();
     let right: Vec<u64> = rows.iter().flat_map(|row| samples(row)).collect();
     if given != right {
         return Err(7);
@@ -163,11 +156,7 @@ pub fn open(bytes: &[u8]) -> Result<Library, u32> {
         return Err(9);
     }
     let lengths = table.iter().map(|pair| pair.1 as u32).collect();
-    Ok(Library {
-        entries,
-        lengths,
-        documents,
-    })
+    Ok(Library { entries, lengths, documents })
 }
 
 /// The rows in these bytes, each of n bits, and the bits that no row uses.

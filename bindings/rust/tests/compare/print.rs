@@ -24,10 +24,7 @@ fn the_small_library() -> Result<(), Refusal> {
     let archive = Archive::open(&bytes)?;
     assert_eq!(archive.access(4)?, 2);
     assert_eq!((archive.rank(3, 8)?, archive.rank(3, 3)?), (3, 1));
-    assert_eq!(
-        (archive.select(0, 2)?, archive.select(0, 3)?),
-        (Some(7), None)
-    );
+    assert_eq!((archive.select(0, 2)?, archive.select(0, 3)?), (Some(7), None));
     assert_eq!(archive.quantile(Entries(0..8), 4)?, 2);
     assert_eq!(archive.quantile(Terms(0..=2), 7)?, 3);
     assert_eq!(archive.conjunction(&[0, 2])?, [(0, 2), (1, 2), (3, 3)]);
@@ -41,10 +38,7 @@ fn the_small_library() -> Result<(), Refusal> {
 fn top_k_of_the_small_library() -> Result<(), Refusal> {
     let bytes = write(&[3, 1, 0, 3, 2, 1, 3, 0], &[3, 0, 5], 4)?;
     let archive = Archive::open(&bytes)?;
-    let (done, spent) = (
-        |openings| Ended::Done { openings },
-        |allowance| Ended::Spent { allowance },
-    );
+    let (done, spent) = (|openings| Ended::Done { openings }, |allowance| Ended::Spent { allowance });
     let cases: [(_, _, _, &[(u32, u32)], _); 6] = [
         (0..8, 2, 9, &[(3, 3), (0, 2)], done(3)),
         (0..8, 1, 2, &[], spent(2)),
@@ -111,10 +105,7 @@ fn exhausted_terms() -> Result<(), Refusal> {
     let mut terms = 0..=1;
     assert_eq!(archive.range_of_terms(terms.clone())?, 0..2);
     assert_eq!(terms.by_ref().count(), 2);
-    assert_eq!(
-        archive.range_of_terms(terms.clone()),
-        Err(Refusal::Argument)
-    );
+    assert_eq!(archive.range_of_terms(terms.clone()), Err(Refusal::Argument));
     assert_eq!(archive.list(Terms(terms)), Err(Refusal::Argument));
     Ok(())
 }

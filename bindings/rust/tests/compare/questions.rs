@@ -31,10 +31,7 @@ pub struct Lent {
 }
 
 /// Slices that are always long enough.
-pub const ROOM: Lent = Lent {
-    first: usize::MAX,
-    second: usize::MAX,
-};
+pub const ROOM: Lent = Lent { first: usize::MAX, second: usize::MAX };
 
 /// An answer: the numbers that the header's out-parameters get, in its order, and the fronts of the two lent slices.
 #[derive(Clone, Debug, Default, PartialEq)]
@@ -70,10 +67,7 @@ pub fn answer(library: &Library, question: &Question, lent: Lent) -> Result<Answ
         }
         Question::RangeOfTerms { first, last } => {
             let (from, to) = term_range(library, *first, *last)?;
-            Ok(Answer {
-                numbers: vec![from as u32, to as u32],
-                ..Answer::default()
-            })
+            Ok(Answer { numbers: vec![from as u32, to as u32], ..Answer::default() })
         }
         Question::Greedy { span, k, allowance } => {
             let range = part(library, *span)?;
@@ -90,10 +84,7 @@ pub fn answer(library: &Library, question: &Question, lent: Lent) -> Result<Answ
 }
 
 fn one(number: Result<u32, u32>) -> Result<Answer, u32> {
-    number.map(|number| Answer {
-        numbers: vec![number],
-        ..Answer::default()
-    })
+    number.map(|number| Answer { numbers: vec![number], ..Answer::default() })
 }
 
 fn enough(lent: usize, room: usize, refusal: u32) -> Result<(), u32> {
@@ -119,21 +110,14 @@ fn listed(pairs: Pairs) -> Answer {
 
 /// After top-k the first 4 × N numbers of the work slice are 0.
 fn with_work(found: Answer, library: &Library) -> Answer {
-    Answer {
-        second: vec![0; 4 * library.documents as usize],
-        ..found
-    }
+    Answer { second: vec![0; 4 * library.documents as usize], ..found }
 }
 
 fn read(library: &Library, lent: Lent) -> Result<Answer, u32> {
     enough(lent.first, library.entries.len(), 12)?;
     enough(lent.second, library.lengths.len(), 12)?;
     Ok(Answer {
-        numbers: vec![
-            library.entries.len() as u32,
-            library.documents,
-            library.lengths.len() as u32,
-        ],
+        numbers: vec![library.entries.len() as u32, library.documents, library.lengths.len() as u32],
         first: library.entries.clone(),
         second: library.lengths.clone(),
     })
@@ -155,9 +139,7 @@ fn select(library: &Library, document: u32, j: u32) -> Result<u32, u32> {
     if document >= library.documents || j == 0 {
         return Err(11);
     }
-    let mut places = (0u32..)
-        .zip(&library.entries)
-        .filter(|(_, entry)| **entry == document);
+    let mut places = (0u32..).zip(&library.entries).filter(|(_, entry)| **entry == document);
     Ok(places.nth(j as usize - 1).map_or(NONE, |(place, _)| place))
 }
 
@@ -199,10 +181,7 @@ fn counts(range: &[u32], size: u32) -> Vec<u32> {
 
 /// Every document of the range once, ascending, with its count.
 fn listing(range: &[u32], documents: u32) -> Pairs {
-    (0..documents)
-        .zip(counts(range, documents))
-        .filter(|pair| pair.1 > 0)
-        .collect()
+    (0..documents).zip(counts(range, documents)).filter(|pair| pair.1 > 0).collect()
 }
 
 fn conjunction(library: &Library, terms: &[u32]) -> Result<Pairs, u32> {
@@ -214,11 +193,7 @@ fn conjunction(library: &Library, terms: &[u32]) -> Result<Pairs, u32> {
         let range = part(library, Span::Terms(*term, *term))?;
         under_each.push(counts(range, library.documents));
     }
-    let of = |document: u32| {
-        under_each
-            .iter()
-            .map(move |counts| counts[document as usize])
-    };
+    let of = |document: u32| under_each.iter().map(move |counts| counts[document as usize]);
     Ok((0..library.documents)
         .filter(|document| of(*document).all(|count| count > 0))
         .map(|document| (document, of(document).sum()))

@@ -71,10 +71,7 @@ fn lengths(random: &mut Random, n: u32, terms: u32) -> Vec<u32> {
     ends.push(n);
     ends.sort();
     let starts = [0].into_iter().chain(ends.iter().copied());
-    ends.iter()
-        .zip(starts)
-        .map(|(end, start)| end - start)
-        .collect()
+    ends.iter().zip(starts).map(|(end, start)| end - start).collect()
 }
 
 /// A range: mostly a good one.
@@ -101,38 +98,15 @@ pub fn question(random: &mut Random, library: &Library) -> Question {
     let span = span(random, library);
     match random.below(12) {
         0 => Question::Read,
-        1 => Question::Access {
-            place: random.near(n),
-        },
-        2 => Question::Rank {
-            document: random.near(documents),
-            place: random.near(n + 1),
-        },
-        3 => Question::Select {
-            document: random.near(documents),
-            j: random.near(3 + 2 * n / documents),
-        },
-        4 => Question::Quantile {
-            span,
-            r: random.near(n / 2 + 1),
-        },
+        1 => Question::Access { place: random.near(n) },
+        2 => Question::Rank { document: random.near(documents), place: random.near(n + 1) },
+        3 => Question::Select { document: random.near(documents), j: random.near(3 + 2 * n / documents) },
+        4 => Question::Quantile { span, r: random.near(n / 2 + 1) },
         5 => Question::List { span },
-        6 => Question::RangeOfTerms {
-            first: random.near(terms),
-            last: random.near(terms),
-        },
-        7 => Question::Probing {
-            span,
-            k: random.near(documents + 1),
-        },
-        8 | 9 => Question::Conjunction {
-            terms: conjunction(random, terms),
-        },
-        _ => Question::Greedy {
-            span,
-            k: random.near(documents + 1),
-            allowance: random.near(2 * documents),
-        },
+        6 => Question::RangeOfTerms { first: random.near(terms), last: random.near(terms) },
+        7 => Question::Probing { span, k: random.near(documents + 1) },
+        8 | 9 => Question::Conjunction { terms: conjunction(random, terms) },
+        _ => Question::Greedy { span, k: random.near(documents + 1), allowance: random.near(2 * documents) },
     }
 }
 
@@ -158,8 +132,5 @@ pub fn lent(random: &mut Random, needed: Lent) -> Lent {
         2 => needed,
         _ => needed + random.below(7) as usize,
     };
-    Lent {
-        first: some(needed.first),
-        second: some(needed.second),
-    }
+    Lent { first: some(needed.first), second: some(needed.second) }
 }

@@ -40,13 +40,7 @@ fn ends(span: Span) -> (u32, u32) {
 }
 
 /// Puts the question; the answer is the number that the function answers. The caller keeps what `Form::Opened` says.
-pub fn ask(
-    bytes: &[u8],
-    form: Form,
-    question: &Question,
-    scratch: &mut Scratch,
-    out: &mut [u32; 3],
-) -> u32 {
+pub fn ask(bytes: &[u8], form: Form, question: &Question, scratch: &mut Scratch, out: &mut [u32; 3]) -> u32 {
     match question {
         Question::List { .. } | Question::Conjunction { .. } => {
             pairs(bytes, form, question, &mut scratch.first, &mut out[0])
@@ -82,8 +76,7 @@ fn numbers(bytes: &[u8], form: Form, question: &Question, out: &mut [u32; 3]) ->
                 ask(archive, length, a, b, r, x)
             }
             Question::RangeOfTerms { first, last } => {
-                let ask =
-                    function!(form; masuvelior_range_of_terms, masuvelior_opened_range_of_terms);
+                let ask = function!(form; masuvelior_range_of_terms, masuvelior_opened_range_of_terms);
                 ask(archive, length, first, last, x, y)
             }
             _ => unreachable!("not of numbers: {question:?}"),
@@ -91,13 +84,7 @@ fn numbers(bytes: &[u8], form: Form, question: &Question, out: &mut [u32; 3]) ->
     }
 }
 
-fn pairs(
-    bytes: &[u8],
-    form: Form,
-    question: &Question,
-    answers: &mut [u32],
-    listed: &mut u32,
-) -> u32 {
+fn pairs(bytes: &[u8], form: Form, question: &Question, answers: &mut [u32], listed: &mut u32) -> u32 {
     let (archive, length) = (bytes.as_ptr(), bytes.len());
     let (first, first_length) = (answers.as_mut_ptr(), answers.len());
     // SAFETY: POINTERS, WRITTEN and CONST by the references; OPENED is kept by our caller.
@@ -118,13 +105,7 @@ fn pairs(
     }
 }
 
-fn two_slices(
-    bytes: &[u8],
-    form: Form,
-    question: &Question,
-    scratch: &mut Scratch,
-    out: &mut [u32; 3],
-) -> u32 {
+fn two_slices(bytes: &[u8], form: Form, question: &Question, scratch: &mut Scratch, out: &mut [u32; 3]) -> u32 {
     let (archive, length) = (bytes.as_ptr(), bytes.len());
     let (first, first_length) = (scratch.first.as_mut_ptr(), scratch.first.len());
     let (second, second_length) = (scratch.second.as_mut_ptr(), scratch.second.len());
@@ -134,52 +115,17 @@ fn two_slices(
         match *question {
             Question::Read => {
                 let ask = function!(form; masuvelior_read, masuvelior_opened_read);
-                ask(
-                    archive,
-                    length,
-                    first,
-                    first_length,
-                    second,
-                    second_length,
-                    x,
-                    y,
-                    z,
-                )
+                ask(archive, length, first, first_length, second, second_length, x, y, z)
             }
             Question::Greedy { span, k, allowance } => {
                 let ask = function!(form, span; masuvelior_greedy_entries, masuvelior_opened_greedy_entries, masuvelior_greedy_terms, masuvelior_opened_greedy_terms);
                 let (a, b) = ends(span);
-                ask(
-                    archive,
-                    length,
-                    a,
-                    b,
-                    k,
-                    allowance,
-                    first,
-                    first_length,
-                    second,
-                    second_length,
-                    x,
-                    y,
-                    z,
-                )
+                ask(archive, length, a, b, k, allowance, first, first_length, second, second_length, x, y, z)
             }
             Question::Probing { span, k } => {
                 let ask = function!(form, span; masuvelior_probing_entries, masuvelior_opened_probing_entries, masuvelior_probing_terms, masuvelior_opened_probing_terms);
                 let (a, b) = ends(span);
-                ask(
-                    archive,
-                    length,
-                    a,
-                    b,
-                    k,
-                    first,
-                    first_length,
-                    second,
-                    second_length,
-                    x,
-                )
+                ask(archive, length, a, b, k, first, first_length, second, second_length, x)
             }
             _ => unreachable!("not of two slices: {question:?}"),
         }

@@ -137,12 +137,7 @@ fn random_questions_at_the_edges() {
 fn random_questions_of_large_libraries() {
     let mut random = Random::new(4);
     let mut met = Met::new();
-    let sizes = [
-        (65_535, 4_096, 4_096),
-        (65_535, 1, 4_096),
-        (65_024, 2_500, 1),
-        (40_000, 4_095, 16),
-    ];
+    let sizes = [(65_535, 4_096, 4_096), (65_535, 1, 4_096), (65_024, 2_500, 1), (40_000, 4_095, 16)];
     let sizes = if quick() { &sizes[3..] } else { &sizes[..] };
     for (n, documents, terms) in sizes {
         let library = library(&mut random, *n, *documents, *terms);
@@ -156,18 +151,7 @@ fn random_questions_of_large_libraries() {
 #[test]
 fn rates() {
     let mut random = Random::new(5);
-    let edges = [
-        0,
-        1,
-        2,
-        999,
-        1_000,
-        1_001,
-        65_535,
-        u32::MAX / 1_000,
-        u32::MAX - 1,
-        u32::MAX,
-    ];
+    let edges = [0, 1, 2, 999, 1_000, 1_001, 65_535, u32::MAX / 1_000, u32::MAX - 1, u32::MAX];
     let mut pairs: Vec<(u32, u32)> = Vec::new();
     for count in edges {
         pairs.extend(edges.map(|size| (count, size)));

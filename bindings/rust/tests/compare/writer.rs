@@ -12,11 +12,7 @@ fn compare_target(library: &Library, right: Result<&[u8], u32>, length: usize, m
     if let Ok(bytes) = right {
         after[..bytes.len()].copy_from_slice(bytes);
     }
-    let Library {
-        entries,
-        lengths,
-        documents,
-    } = library;
+    let Library { entries, lengths, documents } = library;
     let got = write_into(entries, lengths, *documents, &mut target).map_err(Refusal::number);
     met.insert(got.err().unwrap_or(0));
     assert_eq!(got, right.map(<[u8]>::len), "{library:?} into {length}");
@@ -25,11 +21,7 @@ fn compare_target(library: &Library, right: Result<&[u8], u32>, length: usize, m
 
 /// Writes a library in each way, and reads it back.
 fn compare_writer(library: &Library, met: &mut Met) {
-    let Library {
-        entries,
-        lengths,
-        documents,
-    } = library;
+    let Library { entries, lengths, documents } = library;
     let right = library::write(library);
     let got = write(entries, lengths, *documents).map_err(Refusal::number);
     assert_eq!(got, right, "{library:?}");
@@ -101,18 +93,10 @@ fn limits_of_the_writer() {
             *last = n;
         }
         let entries = (0..n).map(|i| i % u32::max(documents, 1)).collect();
-        let library = Library {
-            entries,
-            lengths,
-            documents,
-        };
+        let library = Library { entries, lengths, documents };
         compare_writer(&library, &mut met);
     }
-    let wrapping = Library {
-        entries: vec![0; 3],
-        lengths: vec![u32::MAX, 4],
-        documents: 1,
-    };
+    let wrapping = Library { entries: vec![0; 3], lengths: vec![u32::MAX, 4], documents: 1 };
     compare_writer(&wrapping, &mut met);
     assert_met(&met, 14..=14);
     assert_met(&met, 16..=16);
@@ -124,8 +108,7 @@ fn lengths_of_archives() {
     for _ in 0..rounds(300) {
         let n = random.near(3_000).min(70_000) as usize;
         let (documents, terms) = (random.near(4_097), random.near(4_097) as usize);
-        let within =
-            n <= 65_535 && (1..=4_096).contains(&documents) && (1..=4_096).contains(&terms);
+        let within = n <= 65_535 && (1..=4_096).contains(&documents) && (1..=4_096).contains(&terms);
         let got = archive_length(n, documents, terms);
         if !within {
             assert_eq!(got, Err(Refusal::WriterLimits));
@@ -134,11 +117,7 @@ fn lengths_of_archives() {
         let mut lengths = vec![0; terms];
         lengths[0] = n as u32;
         let entries = vec![0; n];
-        let library = Library {
-            entries,
-            lengths,
-            documents,
-        };
+        let library = Library { entries, lengths, documents };
         assert_eq!(got, Ok(library::archive(&library).len()));
     }
     assert_eq!(archive_length(usize::MAX, 1, 1), Err(Refusal::WriterLimits));
