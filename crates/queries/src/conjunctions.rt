@@ -96,7 +96,7 @@ fn term_missing(l: Layout, q: Terms) -> bool
     false
 }
 
-fn conjunction_opened(archive: &[u8], l: Layout, q: Terms, answers: &mut [u32]) -> Answer
+pub fn conjunction_opened(archive: &[u8], l: Layout, q: Terms, answers: &mut [u32]) -> Answer
     requires { ⌜ Opened (now archive) l ⌝ }
     ensures { λ r. ⌜ pairsOf r (now (answers .exit)) ≡ model.conjunctionResult (now (archive .entry)) (q .numbers) (q .size) (now (answers .entry)) ⌝ }
 {

@@ -24,18 +24,22 @@ pub fn access_in(archive: &[u8], l: Layout, place: usize) -> usize
     wavelet::access(archive, l.levels, place)
 }
 
+pub fn access_opened(archive: &[u8], l: Layout, place: u32) -> Answer
+    requires { ⌜ Opened (now archive) l ⌝ }
+    ensures { λ r. ⌜ numberOf r ≡ accessResult (now (archive .entry)) place ⌝ }
+{
+    let p = place as usize;
+    if l.levels.entries <= p {
+        return Answer::Refused(11);
+    }
+    Answer::Number(access_in(archive, l, p) as u32)
+}
+
 pub fn access(archive: &[u8], place: u32) -> Answer
     ensures { λ r. ⌜ numberOf r ≡ accessResult (now (archive .entry)) place ⌝ }
 {
     match open(archive) {
-        Opening::Accepted(l) => {
-            let p = place as usize;
-            if l.levels.entries <= p {
-                Answer::Refused(11)
-            } else {
-                Answer::Number(access_in(archive, l, p) as u32)
-            }
-        }
+        Opening::Accepted(l) => access_opened(archive, l, place),
         Opening::Refused(number) => Answer::Refused(number),
     }
 }
@@ -49,21 +53,26 @@ pub fn rank_in(archive: &[u8], l: Layout, document: usize, place: usize) -> usiz
     wavelet::rank(archive, l.levels, document, place)
 }
 
+pub fn rank_opened(archive: &[u8], l: Layout, document: u32, place: u32) -> Answer
+    requires { ⌜ Opened (now archive) l ⌝ }
+    ensures { λ r. ⌜ numberOf r ≡ rankResult (now (archive .entry)) document place ⌝ }
+{
+    let d = document as usize;
+    let p = place as usize;
+    if l.documents <= d {
+        return Answer::Refused(11);
+    }
+    if l.levels.entries < p {
+        return Answer::Refused(11);
+    }
+    Answer::Number(rank_in(archive, l, d, p) as u32)
+}
+
 pub fn rank(archive: &[u8], document: u32, place: u32) -> Answer
     ensures { λ r. ⌜ numberOf r ≡ rankResult (now (archive .entry)) document place ⌝ }
 {
     match open(archive) {
-        Opening::Accepted(l) => {
-            let d = document as usize;
-            let p = place as usize;
-            if l.documents <= d {
-                Answer::Refused(11)
-            } else if l.levels.entries < p {
-                Answer::Refused(11)
-            } else {
-                Answer::Number(rank_in(archive, l, d, p) as u32)
-            }
-        }
+        Opening::Accepted(l) => rank_opened(archive, l, document, place),
         Opening::Refused(number) => Answer::Refused(number),
     }
 }
@@ -77,7 +86,7 @@ pub fn select_in(archive: &[u8], l: Layout, document: usize, j: usize) -> Found
     wavelet::select(archive, l.levels, document, j)
 }
 
-fn select_opened(archive: &[u8], l: Layout, document: u32, j: u32) -> Placed
+pub fn select_opened(archive: &[u8], l: Layout, document: u32, j: u32) -> Placed
     requires { ⌜ Opened (now archive) l ⌝ }
     ensures { λ r. ⌜ placeOf r ≡ selectResult (now (archive .entry)) document j ⌝ }
 {

@@ -1,4 +1,5 @@
-// The questions of an archive, each with its refusals. A name that ends in `_in` is the question without them, of an opened archive.
+// The questions of an archive, each with its refusals. A name that ends in `_opened` is the question of an archive that was opened before; one that
+// ends in `_in` is that without the refusals.
 mod conjunctions;
 mod entry;
 mod listing;
@@ -9,19 +10,27 @@ mod ranges;
 
 pub use conjunctions::conjunction;
 pub use conjunctions::conjunction_in;
+pub use conjunctions::conjunction_opened;
 pub use entry::access;
 pub use entry::access_in;
+pub use entry::access_opened;
 pub use entry::rank;
 pub use entry::rank_in;
+pub use entry::rank_opened;
 pub use entry::select;
 pub use entry::select_in;
+pub use entry::select_opened;
 pub use listing::list;
 pub use listing::list_in;
+pub use listing::list_opened;
 pub use listing::list_terms;
+pub use listing::list_terms_opened;
 pub use numbers::per_mille;
 pub use quantiles::quantile;
 pub use quantiles::quantile_in;
+pub use quantiles::quantile_opened;
 pub use quantiles::quantile_terms;
+pub use quantiles::quantile_terms_opened;
 pub use ranges::range_of_terms;
 
 // What a question for a number answers: the number, or the number of a refusal. A question for pairs answers how many they are.

@@ -95,11 +95,31 @@ fn list_of(archive: &[u8], l: Layout, range: Range, answers: &mut [u32]) -> Answ
     }
 }
 
+pub fn list_opened(archive: &[u8], l: Layout, a: u32, b: u32, answers: &mut [u32]) -> Answer
+    requires { ⌜ Opened (now archive) l ⌝ }
+    ensures { λ r. ⌜ pairsOf r (now (answers .exit)) ≡ listResult (now (archive .entry)) (ofEntries a b) (now (answers .entry)) ⌝ }
+{
+    list_of(archive, l, entry_range(l, a, b), answers)
+}
+
+pub fn list_terms_opened(
+    archive: &[u8],
+    l: Layout,
+    first: u32,
+    last: u32,
+    answers: &mut [u32],
+) -> Answer
+    requires { ⌜ Opened (now archive) l ⌝ }
+    ensures { λ r. ⌜ pairsOf r (now (answers .exit)) ≡ listResult (now (archive .entry)) (ofTerms first last) (now (answers .entry)) ⌝ }
+{
+    list_of(archive, l, term_range(archive, l, first, last), answers)
+}
+
 pub fn list(archive: &[u8], a: u32, b: u32, answers: &mut [u32]) -> Answer
     ensures { λ r. ⌜ pairsOf r (now (answers .exit)) ≡ listResult (now (archive .entry)) (ofEntries a b) (now (answers .entry)) ⌝ }
 {
     match open(archive) {
-        Opening::Accepted(l) => list_of(archive, l, entry_range(l, a, b), answers),
+        Opening::Accepted(l) => list_opened(archive, l, a, b, answers),
         Opening::Refused(number) => Answer::Refused(number),
     }
 }
@@ -108,7 +128,7 @@ pub fn list_terms(archive: &[u8], first: u32, last: u32, answers: &mut [u32]) ->
     ensures { λ r. ⌜ pairsOf r (now (answers .exit)) ≡ listResult (now (archive .entry)) (ofTerms first last) (now (answers .entry)) ⌝ }
 {
     match open(archive) {
-        Opening::Accepted(l) => list_of(archive, l, term_range(archive, l, first, last), answers),
+        Opening::Accepted(l) => list_terms_opened(archive, l, first, last, answers),
         Opening::Refused(number) => Answer::Refused(number),
     }
 }

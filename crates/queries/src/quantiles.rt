@@ -45,11 +45,25 @@ fn quantile_of(archive: &[u8], l: Layout, range: Range, r: u32) -> Answer
     }
 }
 
+pub fn quantile_opened(archive: &[u8], l: Layout, a: u32, b: u32, r: u32) -> Answer
+    requires { ⌜ Opened (now archive) l ⌝ }
+    ensures { λ d. ⌜ numberOf d ≡ model.quantileResult (now (archive .entry)) (model.ofEntries a b) r ⌝ }
+{
+    quantile_of(archive, l, entry_range(l, a, b), r)
+}
+
+pub fn quantile_terms_opened(archive: &[u8], l: Layout, first: u32, last: u32, r: u32) -> Answer
+    requires { ⌜ Opened (now archive) l ⌝ }
+    ensures { λ d. ⌜ numberOf d ≡ model.quantileResult (now (archive .entry)) (model.ofTerms first last) r ⌝ }
+{
+    quantile_of(archive, l, term_range(archive, l, first, last), r)
+}
+
 pub fn quantile(archive: &[u8], a: u32, b: u32, r: u32) -> Answer
     ensures { λ d. ⌜ numberOf d ≡ model.quantileResult (now (archive .entry)) (model.ofEntries a b) r ⌝ }
 {
     match open(archive) {
-        Opening::Accepted(l) => quantile_of(archive, l, entry_range(l, a, b), r),
+        Opening::Accepted(l) => quantile_opened(archive, l, a, b, r),
         Opening::Refused(number) => Answer::Refused(number),
     }
 }
@@ -58,7 +72,7 @@ pub fn quantile_terms(archive: &[u8], first: u32, last: u32, r: u32) -> Answer
     ensures { λ d. ⌜ numberOf d ≡ model.quantileResult (now (archive .entry)) (model.ofTerms first last) r ⌝ }
 {
     match open(archive) {
-        Opening::Accepted(l) => quantile_of(archive, l, term_range(archive, l, first, last), r),
+        Opening::Accepted(l) => quantile_terms_opened(archive, l, first, last, r),
         Opening::Refused(number) => Answer::Refused(number),
     }
 }

@@ -11,7 +11,7 @@ use Rattle.bit_rows.proofs.Tests.{look}
 use Rattle.model.specs.Lists.{part, Within}
 use Rattle.model.specs.Outcome.{Outcome, answered, refused, refuse, andThen}
 use Rattle.model.specs.Format.{Library}
-use Rattle.model.specs.Opening.{opening, opened, contents}
+use Rattle.model.specs.Opening.{opened, contents}
 use Rattle.model.specs.Queries as model
 use Rattle.model.specs.Queries.{boundsOf, inRange}
 use Rattle.model.specs.TopK.{Found, foundInto, searchResult, greedyResult, probingResult}
@@ -88,10 +88,6 @@ module _ (bytes : List ℕ) (k answers work : ℕ) (s : Search) (ok : Searchable
       go (inr e) (inr f) = rw (e, f) (ok, (ltb-false answers (2 * min k (s .documents)) e, ltb-false work (4 * s .documents) f))
 
 module _ (bytes : List ℕ) (r : model.Range) (k answers work : ℕ) where
-  -- an archive that is refused
-  pub posed-refused : (number : ℕ) → opening bytes ≡ refused number → Posed bytes r k answers work (query.Refused number)
-  posed-refused number e = record { same = rw e; ready = tt }
-
   module _ (l : Layout) (o : Opened bytes l) where
     abbrev searchAt : ℕ → ℕ → Search
     searchAt a b = record { levels = l .levels; documents = l .documents; a = a; b = b }

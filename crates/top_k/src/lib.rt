@@ -10,9 +10,13 @@ mod rounds;
 pub mod step;
 
 pub use operations::greedy_entries;
+pub use operations::greedy_entries_opened;
 pub use operations::greedy_terms;
+pub use operations::greedy_terms_opened;
 pub use operations::probing_entries;
+pub use operations::probing_entries_opened;
 pub use operations::probing_terms;
+pub use operations::probing_terms_opened;
 use wavelet::Levels;
 
 // What is searched: the levels of a tree over N documents, and in it the entries a up to but without b.

@@ -1,17 +1,23 @@
 // Top-k of an archive: the greedy search and probing, over entries and over terms, each with its refusals. A refusal writes nothing.
+// A name that ends in `_opened` is the question of an archive that was opened before.
 use crate::Ended;
 use crate::Probed;
 use crate::Query;
 use crate::TopK;
 use crate::greedy::greedy;
 use crate::probing::probing;
-use crate::question::over_entries;
-use crate::question::over_terms;
+use crate::question::over;
+use archive::Layout;
+use archive::Opening;
+use archive::entry_range;
+use archive::open;
+use archive::term_range;
 ghost use mathlib.Core.Path.{_≡_};
 ghost use lib.ListN.{length};
 ghost use Rattle.model.specs.Outcome.{answered, andThen};
 ghost use Rattle.model.specs.Queries.{ofEntries, ofTerms};
 ghost use Rattle.model.specs.TopK.{foundInto, greedyResult, probingResult};
+ghost use Rattle.archive.specs.Layout.{Opened};
 ghost use Rattle.top_k.specs.Results.{endedIs};
 ghost use Rattle.top_k.specs.Asked.{topKOf, probedOf, Ready, askedIn, greedyOf, probingOf};
 
@@ -60,6 +66,24 @@ fn search_by_probing(
 }
 
 // Greedy top-k of the entries a up to but without b.
+pub fn greedy_entries_opened(
+    archive: &[u8],
+    layout: Layout,
+    a: u32,
+    b: u32,
+    k: u32,
+    allowance: u32,
+    answers: &mut [u32],
+    work: &mut [u32],
+) -> TopK
+    requires { ⌜ Opened (now archive) layout ⌝ }
+    ensures { λ r. ⌜ record { outcome = topKOf r; answers = now (answers .exit); work = now (work .exit) } ≡ greedyResult (now (archive .entry)) (ofEntries a b) k allowance (now (answers .entry)) (now (work .entry)) ⌝ }
+{
+    let range = entry_range(layout, a, b);
+    let q = over(layout, range, k, answers.len(), work.len());
+    search_greedily(archive, q, k, allowance, answers, work)
+}
+
 pub fn greedy_entries(
     archive: &[u8],
     a: u32,
@@ -71,11 +95,40 @@ pub fn greedy_entries(
 ) -> TopK
     ensures { λ r. ⌜ record { outcome = topKOf r; answers = now (answers .exit); work = now (work .exit) } ≡ greedyResult (now (archive .entry)) (ofEntries a b) k allowance (now (answers .entry)) (now (work .entry)) ⌝ }
 {
-    let q = over_entries(archive, a, b, k, answers.len(), work.len());
-    search_greedily(archive, q, k, allowance, answers, work)
+    match open(archive) {
+        Opening::Refused(number) => TopK::Refused(number),
+        Opening::Accepted(layout) => greedy_entries_opened(
+            archive,
+            layout,
+            a,
+            b,
+            k,
+            allowance,
+            answers,
+            work,
+        ),
+    }
 }
 
 // Greedy top-k of the terms f to l, both included.
+pub fn greedy_terms_opened(
+    archive: &[u8],
+    layout: Layout,
+    f: u32,
+    l: u32,
+    k: u32,
+    allowance: u32,
+    answers: &mut [u32],
+    work: &mut [u32],
+) -> TopK
+    requires { ⌜ Opened (now archive) layout ⌝ }
+    ensures { λ r. ⌜ record { outcome = topKOf r; answers = now (answers .exit); work = now (work .exit) } ≡ greedyResult (now (archive .entry)) (ofTerms f l) k allowance (now (answers .entry)) (now (work .entry)) ⌝ }
+{
+    let range = term_range(archive, layout, f, l);
+    let q = over(layout, range, k, answers.len(), work.len());
+    search_greedily(archive, q, k, allowance, answers, work)
+}
+
 pub fn greedy_terms(
     archive: &[u8],
     f: u32,
@@ -87,11 +140,39 @@ pub fn greedy_terms(
 ) -> TopK
     ensures { λ r. ⌜ record { outcome = topKOf r; answers = now (answers .exit); work = now (work .exit) } ≡ greedyResult (now (archive .entry)) (ofTerms f l) k allowance (now (answers .entry)) (now (work .entry)) ⌝ }
 {
-    let q = over_terms(archive, f, l, k, answers.len(), work.len());
-    search_greedily(archive, q, k, allowance, answers, work)
+    match open(archive) {
+        Opening::Refused(number) => TopK::Refused(number),
+        Opening::Accepted(layout) => greedy_terms_opened(
+            archive,
+            layout,
+            f,
+            l,
+            k,
+            allowance,
+            answers,
+            work,
+        ),
+    }
 }
 
 // Probing top-k of the entries a up to but without b.
+pub fn probing_entries_opened(
+    archive: &[u8],
+    layout: Layout,
+    a: u32,
+    b: u32,
+    k: u32,
+    answers: &mut [u32],
+    work: &mut [u32],
+) -> Probed
+    requires { ⌜ Opened (now archive) layout ⌝ }
+    ensures { λ r. ⌜ record { outcome = probedOf r; answers = now (answers .exit); work = now (work .exit) } ≡ probingResult (now (archive .entry)) (ofEntries a b) k (now (answers .entry)) (now (work .entry)) ⌝ }
+{
+    let range = entry_range(layout, a, b);
+    let q = over(layout, range, k, answers.len(), work.len());
+    search_by_probing(archive, q, k, answers, work)
+}
+
 pub fn probing_entries(
     archive: &[u8],
     a: u32,
@@ -102,11 +183,38 @@ pub fn probing_entries(
 ) -> Probed
     ensures { λ r. ⌜ record { outcome = probedOf r; answers = now (answers .exit); work = now (work .exit) } ≡ probingResult (now (archive .entry)) (ofEntries a b) k (now (answers .entry)) (now (work .entry)) ⌝ }
 {
-    let q = over_entries(archive, a, b, k, answers.len(), work.len());
-    search_by_probing(archive, q, k, answers, work)
+    match open(archive) {
+        Opening::Refused(number) => Probed::Refused(number),
+        Opening::Accepted(layout) => probing_entries_opened(
+            archive,
+            layout,
+            a,
+            b,
+            k,
+            answers,
+            work,
+        ),
+    }
 }
 
 // Probing top-k of the terms f to l, both included.
+pub fn probing_terms_opened(
+    archive: &[u8],
+    layout: Layout,
+    f: u32,
+    l: u32,
+    k: u32,
+    answers: &mut [u32],
+    work: &mut [u32],
+) -> Probed
+    requires { ⌜ Opened (now archive) layout ⌝ }
+    ensures { λ r. ⌜ record { outcome = probedOf r; answers = now (answers .exit); work = now (work .exit) } ≡ probingResult (now (archive .entry)) (ofTerms f l) k (now (answers .entry)) (now (work .entry)) ⌝ }
+{
+    let range = term_range(archive, layout, f, l);
+    let q = over(layout, range, k, answers.len(), work.len());
+    search_by_probing(archive, q, k, answers, work)
+}
+
 pub fn probing_terms(
     archive: &[u8],
     f: u32,
@@ -117,6 +225,8 @@ pub fn probing_terms(
 ) -> Probed
     ensures { λ r. ⌜ record { outcome = probedOf r; answers = now (answers .exit); work = now (work .exit) } ≡ probingResult (now (archive .entry)) (ofTerms f l) k (now (answers .entry)) (now (work .entry)) ⌝ }
 {
-    let q = over_terms(archive, f, l, k, answers.len(), work.len());
-    search_by_probing(archive, q, k, answers, work)
+    match open(archive) {
+        Opening::Refused(number) => Probed::Refused(number),
+        Opening::Accepted(layout) => probing_terms_opened(archive, layout, f, l, k, answers, work),
+    }
 }

@@ -1,17 +1,12 @@
 use borrow.Author.Needs.{needs}
-use mathlib.Core.Path.{_≡_, sym, ap, _∙_}
-use Rattle.model.specs.Opening.{opening, contents}
+use mathlib.Core.Path.{_≡_}
+use Rattle.model.specs.Opening.{opening}
 use Rattle.archive.specs.declared.Layout.{Layout}
 use Rattle.archive.specs.declared.Opening.the-variants.{Accepted, Refused}
 use Rattle.archive.specs.Opening.{openedAs}
 use Rattle.archive.proofs.Acceptance.{opened-of}
 use Prim.Native.Nat.{ℕ}
-use Rattle.model.specs.Outcome.{Outcome}
-use Rattle.model.specs.Queries.{Bounds, ofEntries}
-use Rattle.archive.proofs.Opened.{entries-size}
-use Rattle.archive.specs.Ranges.{entryBounds}
-use Rattle.queries.specs.Ranges.{listOf}
-use Rattle.queries.proofs.Results.{refused-of, list-is}
+use Rattle.queries.proofs.Results.{refused-of}
 use Rattle.queries.proofs.listing.list.Statement.{statement}
 use Rattle.queries.proofs.listing.list.Tie as tie
 
@@ -21,17 +16,14 @@ open-requires c κs = search needs
 enum-known-l : tie.Need-enum-known-l
 enum-known-l c = search needs
 
-entry-range-requires : tie.Need-entry-range-requires
-entry-range-requires c κs = search needs
-
-list-of-requires : tie.Need-list-of-requires
-list-of-requires c κs =
-    let s = c .before .before .before .before .before .before .before .before in
+list-opened-requires : tie.Need-list-opened-requires
+list-opened-requires c κs =
+    let s = c .before .before .before .before .before .before .before in
     let g = s .args in
-    let l : Layout = c .before .before .before .l .given .0 .0 in
+    let l : Layout = c .before .before .l .given .0 .0 in
     let e : openedAs (opening (g .archive .now)) ≡ Accepted l = cc in
     let o = opened-of (g .archive .now) l e in
-    (o, c .before .entry-range .ensures .1)
+    o
 
 enum-known-number : tie.Need-enum-known-number
 enum-known-number c = search needs
@@ -40,16 +32,7 @@ same-length : tie.Need-same-length
 same-length c = search needs
 
 returns : tie.Need-returns
-returns c =
-    let s = c .before .before .before .before .before .before .before .before .before .before .before in
-    let g = s .args in
-    let l : Layout = c .before .before .before .before .before .before .l .given .0 .0 in
-    let e : openedAs (opening (g .archive .now)) ≡ Accepted l = cc in
-    let o = opened-of (g .archive .now) l e in
-    let n = entries-size (g .archive .now) l o in
-    c .before .before .list-of .ensures
-    ∙ ap (λ (ends : Outcome Bounds). listOf (contents (g .archive .now)) ends (g .answers .now)) (c .before .before .before .before .entry-range .ensures .0 ∙ ap (λ (n : ℕ). entryBounds n (g .a) (g .b)) (sym n))
-    ∙ list-is (g .archive .now) l o (ofEntries (g .a) (g .b)) (g .answers .now)
+returns c = search needs
 
 returns-2 : tie.Need-returns-2
 returns-2 c =
@@ -64,8 +47,7 @@ list-spec =
     (tie.spec
     open-requires
     enum-known-l
-    entry-range-requires
-    list-of-requires
+    list-opened-requires
     enum-known-number
     same-length
     returns

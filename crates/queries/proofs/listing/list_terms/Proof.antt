@@ -1,15 +1,12 @@
 use borrow.Author.Needs.{needs}
-use mathlib.Core.Path.{_≡_, ap, _∙_}
-use Rattle.model.specs.Opening.{opening, contents}
+use mathlib.Core.Path.{_≡_}
+use Rattle.model.specs.Opening.{opening}
 use Rattle.archive.specs.declared.Layout.{Layout}
 use Rattle.archive.specs.declared.Opening.the-variants.{Accepted, Refused}
 use Rattle.archive.specs.Opening.{openedAs}
 use Rattle.archive.proofs.Acceptance.{opened-of}
 use Prim.Native.Nat.{ℕ}
-use Rattle.model.specs.Outcome.{Outcome}
-use Rattle.model.specs.Queries.{Bounds, ofTerms}
-use Rattle.queries.specs.Ranges.{listOf}
-use Rattle.queries.proofs.Results.{refused-of, list-is}
+use Rattle.queries.proofs.Results.{refused-of}
 use Rattle.queries.proofs.listing.list_terms.Statement.{statement}
 use Rattle.queries.proofs.listing.list_terms.Tie as tie
 
@@ -19,23 +16,14 @@ open-requires c κs = search needs
 enum-known-l : tie.Need-enum-known-l
 enum-known-l c = search needs
 
-term-range-requires : tie.Need-term-range-requires
-term-range-requires c κs =
-    let s = c .before .before .before .before .before .before in
+list-terms-opened-requires : tie.Need-list-terms-opened-requires
+list-terms-opened-requires c κs =
+    let s = c .before .before .before .before .before .before .before in
     let g = s .args in
-    let l : Layout = c .before .l .given .0 .0 in
+    let l : Layout = c .before .before .l .given .0 .0 in
     let e : openedAs (opening (g .archive .now)) ≡ Accepted l = cc in
     let o = opened-of (g .archive .now) l e in
     o
-
-list-of-requires : tie.Need-list-of-requires
-list-of-requires c κs =
-    let s = c .before .before .before .before .before .before .before .before in
-    let g = s .args in
-    let l : Layout = c .before .before .before .l .given .0 .0 in
-    let e : openedAs (opening (g .archive .now)) ≡ Accepted l = cc in
-    let o = opened-of (g .archive .now) l e in
-    (o, c .before .term-range .ensures .1)
 
 enum-known-number : tie.Need-enum-known-number
 enum-known-number c = search needs
@@ -44,15 +32,7 @@ same-length : tie.Need-same-length
 same-length c = search needs
 
 returns : tie.Need-returns
-returns c =
-    let s = c .before .before .before .before .before .before .before .before .before .before .before in
-    let g = s .args in
-    let l : Layout = c .before .before .before .before .before .before .l .given .0 .0 in
-    let e : openedAs (opening (g .archive .now)) ≡ Accepted l = cc in
-    let o = opened-of (g .archive .now) l e in
-    c .before .before .list-of .ensures
-    ∙ ap (λ (ends : Outcome Bounds). listOf (contents (g .archive .now)) ends (g .answers .now)) (c .before .before .before .before .term-range .ensures .0)
-    ∙ list-is (g .archive .now) l o (ofTerms (g .first) (g .last)) (g .answers .now)
+returns c = search needs
 
 returns-2 : tie.Need-returns-2
 returns-2 c =
@@ -67,8 +47,7 @@ list-terms-spec =
     (tie.spec
     open-requires
     enum-known-l
-    term-range-requires
-    list-of-requires
+    list-terms-opened-requires
     enum-known-number
     same-length
     returns

@@ -1,15 +1,12 @@
 use borrow.Author.Needs.{needs}
-use mathlib.Core.Path.{_≡_, ap, _∙_}
-use Rattle.model.specs.Opening.{opening, contents}
+use mathlib.Core.Path.{_≡_}
+use Rattle.model.specs.Opening.{opening}
 use Rattle.archive.specs.declared.Layout.{Layout}
 use Rattle.archive.specs.declared.Opening.the-variants.{Accepted, Refused}
 use Rattle.archive.specs.Opening.{openedAs}
 use Rattle.archive.proofs.Acceptance.{opened-of}
 use Prim.Native.Nat.{ℕ}
-use Rattle.model.specs.Outcome.{Outcome}
-use Rattle.model.specs.Queries.{Bounds, ofTerms}
-use Rattle.queries.specs.Ranges.{quantileOf}
-use Rattle.queries.proofs.Results.{refused-of, quantile-is}
+use Rattle.queries.proofs.Results.{refused-of}
 use Rattle.queries.proofs.quantiles.quantile_terms.Statement.{statement}
 use Rattle.queries.proofs.quantiles.quantile_terms.Tie as tie
 
@@ -19,8 +16,8 @@ open-requires c κs = search needs
 enum-known-l : tie.Need-enum-known-l
 enum-known-l c = search needs
 
-term-range-requires : tie.Need-term-range-requires
-term-range-requires c κs =
+quantile-terms-opened-requires : tie.Need-quantile-terms-opened-requires
+quantile-terms-opened-requires c κs =
     let s = c .before .before .before .before .before in
     let g = s .args in
     let l : Layout = c .before .l .given .0 .0 in
@@ -28,27 +25,11 @@ term-range-requires c κs =
     let o = opened-of (g .archive .now) l e in
     o
 
-quantile-of-requires : tie.Need-quantile-of-requires
-quantile-of-requires c κs =
-    let s = c .before .before .before .before .before .before in
-    let g = s .args in
-    let l : Layout = c .before .before .l .given .0 .0 in
-    let e : openedAs (opening (g .archive .now)) ≡ Accepted l = cc in
-    let o = opened-of (g .archive .now) l e in
-    (o, c .term-range .ensures .1)
-
 enum-known-number : tie.Need-enum-known-number
 enum-known-number c = search needs
 
 returns : tie.Need-returns
-returns c =
-    let s = c .before .before .before .before .before .before .before in
-    let g = s .args in
-    let l : Layout = c .before .before .before .l .given .0 .0 in
-    let e : openedAs (opening (g .archive .now)) ≡ Accepted l = cc in
-    let o = opened-of (g .archive .now) l e in
-    c .quantile-of .ensures ∙ ap (λ (ends : Outcome Bounds). quantileOf (contents (g .archive .now)) ends (g .r)) (c .before .term-range .ensures .0)
-    ∙ quantile-is (g .archive .now) l o (ofTerms (g .first) (g .last)) (g .r)
+returns c = search needs
 
 returns-2 : tie.Need-returns-2
 returns-2 c =
@@ -63,8 +44,7 @@ quantile-terms-spec =
     (tie.spec
     open-requires
     enum-known-l
-    term-range-requires
-    quantile-of-requires
+    quantile-terms-opened-requires
     enum-known-number
     returns
     returns-2)

@@ -1,0 +1,144 @@
+/* Writes the small library of document 01, opens it, asks it questions, and compares what was answered with expected.txt.
+ * run.sh builds and runs it. It ends with 0 where every line is as expected. */
+#include "masuvelior.h"
+#include <stdio.h>
+#include <string.h>
+
+enum { N = 4, ROOM = 128 };
+
+static uint8_t archive[ROOM];
+static size_t size;
+static char said[4096];
+
+/* One line of what was answered: a name, the answer's number, and so many values. */
+static void say(const char *name, uint32_t code, const uint32_t *values, size_t count) {
+  size_t at = strlen(said);
+  at += (size_t)snprintf(said + at, sizeof said - at, "%s: %u", name, (unsigned)code);
+  for (size_t i = 0; i < count; i++) at += (size_t)snprintf(said + at, sizeof said - at, " %u", (unsigned)values[i]);
+  snprintf(said + at, sizeof said - at, "\n");
+}
+
+static void write_library(void) {
+  const uint32_t entries[] = {3, 1, 0, 3, 2, 1, 3, 0};
+  const uint32_t lengths[] = {3, 0, 5};
+  size_t needed = 0;
+  uint32_t code = masuvelior_archive_length(8, N, 3, &needed);
+  uint32_t lengthened = (uint32_t)needed;
+  say("archive_length", code, &lengthened, 1);
+  code = masuvelior_write(entries, 8, lengths, 3, N, archive, sizeof archive, &size);
+  uint32_t written = (uint32_t)size;
+  say("write", code, &written, 1);
+}
+
+static void open_and_read(void) {
+  uint32_t sizes[3] = {0, 0, 0};
+  say("open", masuvelior_open(archive, size, &sizes[0], &sizes[1], &sizes[2]), sizes, 3);
+  uint32_t none[3] = {7, 7, 7};
+  say("open one byte more", masuvelior_open(archive, size + 1, &none[0], &none[1], &none[2]), none, 3);
+  uint32_t entries[8], lengths[3];
+  say("read", masuvelior_read(archive, size, entries, 8, lengths, 3, &sizes[0], &sizes[1], &sizes[2]), entries, 8);
+  say("read, lengths", 0, lengths, 3);
+}
+
+/* Questions that check the archive. */
+static void ask(void) {
+  uint32_t x = 99, range[2] = {0, 0}, answers[2 * N], listed = 0;
+  say("access 4", masuvelior_access(archive, size, 4, &x), &x, 1);
+  say("rank of 3 before 8", masuvelior_rank(archive, size, 3, 8, &x), &x, 1);
+  say("select second 0", masuvelior_select(archive, size, 0, 2, &x), &x, 1);
+  say("quantile 4 of 0 to 8", masuvelior_quantile(archive, size, 0, 8, 4, &x), &x, 1);
+  say("quantile 0 of term 2", masuvelior_quantile_terms(archive, size, 2, 2, 0, &x), &x, 1);
+  uint32_t code = masuvelior_list(archive, size, 0, 4, answers, 2 * N, &listed);
+  say("list 0 to 4", code, answers, 2 * listed);
+  code = masuvelior_list_terms(archive, size, 1, 1, answers, 2 * N, &listed);
+  say("list of term 1", code, answers, 2 * listed);
+  const uint32_t both[] = {0, 2};
+  code = masuvelior_conjunction(archive, size, both, 2, answers, 2 * N, &listed);
+  say("terms 0 and 2", code, answers, 2 * listed);
+  say("range of terms 1 to 2", masuvelior_range_of_terms(archive, size, 1, 2, &range[0], &range[1]), range, 2);
+  say("3 of 16 per mille", masuvelior_per_mille(3, 16, &x), &x, 1);
+}
+
+static void search(void) {
+  uint32_t answers[2 * N], work[4 * N], listed = 0, end[2] = {9, 9};
+  uint32_t code = masuvelior_greedy_entries(archive, size, 0, 8, 2, 9, answers, 4, work, 4 * N, &listed, &end[0], &end[1]);
+  say("greedy 0 to 8, 2, 9", code, answers, 2 * listed);
+  say("  done", code, end, 2);
+  code = masuvelior_greedy_terms(archive, size, 0, 2, 1, 2, answers, 2, work, 4 * N, &listed, &end[0], &end[1]);
+  say("greedy terms 0 to 2, 1, 2", code, answers, 2 * listed);
+  say("  spent", code, end, 2);
+  code = masuvelior_probing_entries(archive, size, 1, 4, 3, answers, 6, work, 4 * N, &listed);
+  say("probing 1 to 4, 3", code, answers, 2 * listed);
+  code = masuvelior_probing_terms(archive, size, 0, 0, 1, answers, 2, work, 4 * N, &listed);
+  say("probing term 0, 1", code, answers, 2 * listed);
+}
+
+/* Many questions of one archive: it was opened once, and is not checked again. */
+static void ask_opened(void) {
+  uint32_t x = 99, range[2], answers[2 * N], work[4 * N], listed = 0, end[2];
+  uint32_t entries[8], lengths[3], sizes[3];
+  say("opened access 4", masuvelior_opened_access(archive, size, 4, &x), &x, 1);
+  say("opened rank of 3 before 3", masuvelior_opened_rank(archive, size, 3, 3, &x), &x, 1);
+  uint32_t code = masuvelior_opened_select(archive, size, 0, 3, &x);
+  x = x == MASUVELIOR_NONE;
+  say("opened select third 0, none", code, &x, 1);
+  say("opened quantile 7 of 0 to 8", masuvelior_opened_quantile(archive, size, 0, 8, 7, &x), &x, 1);
+  say("opened quantile 2 of term 0", masuvelior_opened_quantile_terms(archive, size, 0, 0, 2, &x), &x, 1);
+  code = masuvelior_opened_list(archive, size, 3, 8, answers, 2 * N, &listed);
+  say("opened list 3 to 8", code, answers, 2 * listed);
+  code = masuvelior_opened_list_terms(archive, size, 0, 0, answers, 2 * N, &listed);
+  say("opened list of term 0", code, answers, 2 * listed);
+  const uint32_t twice[] = {0, 0};
+  code = masuvelior_opened_conjunction(archive, size, twice, 2, answers, 2 * N, &listed);
+  say("opened terms 0 and 0", code, answers, 2 * listed);
+  say("opened range of term 0", masuvelior_opened_range_of_terms(archive, size, 0, 0, &range[0], &range[1]), range, 2);
+  code = masuvelior_opened_greedy_entries(archive, size, 1, 4, 3, 2, answers, 6, work, 4 * N, &listed, &end[0], &end[1]);
+  say("opened greedy 1 to 4, 3, 2", code, answers, 2 * listed);
+  say("  spent", code, end, 2);
+  code = masuvelior_opened_greedy_terms(archive, size, 1, 1, 5, 0, answers, 2 * N, work, 4 * N, &listed, &end[0], &end[1]);
+  say("opened greedy term 1, 5, 0", code, answers, 2 * listed);
+  say("  done", code, end, 2);
+  code = masuvelior_opened_probing_entries(archive, size, 0, 8, 4, answers, 2 * N, work, 4 * N, &listed);
+  say("opened probing 0 to 8, 4", code, answers, 2 * listed);
+  code = masuvelior_opened_probing_terms(archive, size, 2, 2, 2, answers, 4, work, 4 * N, &listed);
+  say("opened probing term 2, 2", code, answers, 2 * listed);
+  code = masuvelior_opened_read(archive, size, entries, 8, lengths, 3, &sizes[0], &sizes[1], &sizes[2]);
+  say("opened read", code, sizes, 3);
+}
+
+/* A refusal answers its number and leaves what is lent as it was. */
+static void refusals(void) {
+  uint32_t x = 99, listed = 98, answers[2 * N] = {5, 5, 5, 5, 5, 5, 5, 5}, work[4 * N] = {6}, end[2] = {97, 96};
+  const uint32_t nine[] = {0, 0, 0, 0, 0, 0, 0, 0, 0};
+  say("access 8", masuvelior_access(archive, size, 8, &x), &x, 1);
+  say("opened access 8", masuvelior_opened_access(archive, size, 8, &x), &x, 1);
+  say("nine terms", masuvelior_conjunction(archive, size, nine, 9, answers, 2 * N, &listed), &listed, 1);
+  say("opened no terms", masuvelior_opened_conjunction(archive, size, nine, 0, answers, 2 * N, &listed), &listed, 1);
+  say("list, short answers", masuvelior_opened_list(archive, size, 0, 8, answers, 2 * N - 1, &listed), &listed, 1);
+  say("greedy, short work", masuvelior_greedy_entries(archive, size, 0, 8, 2, 9, answers, 4, work, 4 * N - 1, &listed, &end[0], &end[1]), end, 2);
+  say("  answers", 0, answers, 2 * N);
+  say("  work", 0, work, 1);
+}
+
+int main(int argc, char **argv) {
+  static char expected[sizeof said];
+  write_library();
+  open_and_read();
+  ask();
+  search();
+  ask_opened();
+  refusals();
+  fputs(said, stdout);
+  FILE *file = argc == 2 ? fopen(argv[1], "rb") : NULL;
+  if (file == NULL) {
+    fputs("example: wants the file of expected lines\n", stderr);
+    return 2;
+  }
+  size_t got = fread(expected, 1, sizeof expected - 1, file);
+  fclose(file);
+  if (got != strlen(said) || memcmp(expected, said, got) != 0) {
+    fputs("example: the lines above differ from the expected ones\n", stderr);
+    return 1;
+  }
+  return 0;
+}

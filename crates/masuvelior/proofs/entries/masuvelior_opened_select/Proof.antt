@@ -1,0 +1,23 @@
+use borrow.Author.Needs.{needs}
+use mathlib.Core.List.{[], _∷_}
+use Rattle.masuvelior.specs.Left.{placed}
+use Rattle.masuvelior.proofs.Leaving.{given-for}
+use Rattle.masuvelior.proofs.entries.masuvelior_opened_select.Statement.{statement}
+use Rattle.masuvelior.proofs.entries.masuvelior_opened_select.Tie as tie
+
+layout-in-requires : tie.Need-layout-in-requires
+layout-in-requires c κs = search needs
+
+select-opened-requires : tie.Need-select-opened-requires
+select-opened-requires c κs = search needs
+
+place-requires : tie.Need-place-requires
+place-requires c κs = search needs
+
+returns : tie.Need-returns
+returns c =
+    let g = c .before .before .before .before .before .args in
+    given-for placed (g .place .now ∷ []) (c .place .ensures) (c .before .before .select-opened .ensures)
+
+pub masuvelior-opened-select-spec : {M : Type 1} → statement M
+masuvelior-opened-select-spec = tie.close (tie.spec layout-in-requires select-opened-requires place-requires returns)

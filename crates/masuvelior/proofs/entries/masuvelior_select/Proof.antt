@@ -1,0 +1,20 @@
+use borrow.Author.Needs.{needs}
+use mathlib.Core.List.{[], _∷_}
+use Rattle.masuvelior.specs.Left.{placed}
+use Rattle.masuvelior.proofs.Leaving.{given-for}
+use Rattle.masuvelior.proofs.entries.masuvelior_select.Statement.{statement}
+use Rattle.masuvelior.proofs.entries.masuvelior_select.Tie as tie
+
+select-requires : tie.Need-select-requires
+select-requires c κs = search needs
+
+place-requires : tie.Need-place-requires
+place-requires c κs = search needs
+
+returns : tie.Need-returns
+returns c =
+    let g = c .before .before .before .before .args in
+    given-for placed (g .place .now ∷ []) (c .place .ensures) (c .before .before .select .ensures)
+
+pub masuvelior-select-spec : {M : Type 1} → statement M
+masuvelior-select-spec = tie.close (tie.spec select-requires place-requires returns)

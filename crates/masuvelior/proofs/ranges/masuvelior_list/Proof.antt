@@ -1,0 +1,22 @@
+use borrow.Author.Needs.{needs}
+use mathlib.Core.List.{[], _∷_}
+use Rattle.masuvelior.proofs.Leaving.{pairs-left}
+use Rattle.masuvelior.proofs.ranges.masuvelior_list.Statement.{statement}
+use Rattle.masuvelior.proofs.ranges.masuvelior_list.Tie as tie
+
+list-requires : tie.Need-list-requires
+list-requires c κs = search needs
+
+number-requires : tie.Need-number-requires
+number-requires c κs = search needs
+
+same-length : tie.Need-same-length
+same-length c = search needs
+
+returns : tie.Need-returns
+returns c =
+    let g = c .before .before .before .before .before .before .before .before .args in
+    pairs-left (g .listed .now ∷ []) (c .number .ensures) (c .before .before .before .before .list .ensures)
+
+pub masuvelior-list-spec : {M : Type 1} → statement M
+masuvelior-list-spec = tie.close (tie.spec list-requires number-requires same-length returns)

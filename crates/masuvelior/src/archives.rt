@@ -1,0 +1,101 @@
+// The archive itself: the check on opening, the length, the writer and the reader.
+use crate::give;
+use archive::Opening;
+ghost use mathlib.Core.Path.{_≡_};
+ghost use mathlib.Core.List.{[], _∷_};
+ghost use Rattle.model.specs.Format.{writeResult};
+ghost use Rattle.model.specs.Opening.{opening, readResult};
+ghost use Rattle.archive.specs.Layout.{IsArchive};
+ghost use Rattle.masuvelior.specs.Left.{given, single, sizes, writeLeft, readLeft};
+ghost use Rattle.masuvelior.specs.Chosen.{lengthResult};
+
+// The check on opening.
+#[no_mangle]
+pub extern "C" fn masuvelior_open(
+    archive: &[u8],
+    n: &mut u32,
+    documents: &mut u32,
+    terms: &mut u32,
+) -> u32
+    ensures { λ r. ⌜ record { code = r; outs = now (n .exit) ∷ now (documents .exit) ∷ now (terms .exit) ∷ [] } ≡ given sizes (opening (now (archive .entry))) (now (n .entry) ∷ now (documents .entry) ∷ now (terms .entry) ∷ []) ⌝ }
+{
+    match archive::open(archive) {
+        Opening::Accepted(l) => give::sizes(
+            l.levels.entries,
+            l.documents,
+            l.terms,
+            n,
+            documents,
+            terms,
+        ),
+        Opening::Refused(number) => number,
+    }
+}
+
+// The length of an archive.
+#[no_mangle]
+pub extern "C" fn masuvelior_archive_length(
+    n: u32,
+    documents: u32,
+    terms: u32,
+    length: &mut usize,
+) -> u32
+    ensures { λ r. ⌜ record { code = r; outs = now (length .exit) ∷ [] } ≡ given single (lengthResult (record { entries = n; documents = documents; terms = terms })) (now (length .entry) ∷ []) ⌝ }
+{
+    let entries = n as usize;
+    let d = documents as usize;
+    let w = terms as usize;
+    if !archive::within_limits(entries, d, w) {
+        return 14;
+    }
+    *length = archive::archive_length(archive::layout_of(entries, d, w));
+    0
+}
+
+// The writer.
+#[no_mangle]
+pub extern "C" fn masuvelior_write(
+    entries: &[u32],
+    lengths: &[u32],
+    documents: u32,
+    target: &mut [u8],
+    length: &mut usize,
+) -> u32
+    ensures { λ r. ⌜ record { answer = record { code = r; outs = now (length .exit) ∷ [] }; slices = now (target .exit) ∷ [] } ≡ writeLeft (writeResult (record { documents = documents; lengths = now (lengths .entry); entries = now (entries .entry) }) (now (target .entry))) (now (length .entry) ∷ []) ⌝ }
+{
+    let answer = archive::write(entries, lengths, documents, target);
+    give::written(answer, length)
+}
+
+// The reader.
+#[no_mangle]
+pub extern "C" fn masuvelior_read(
+    archive: &[u8],
+    entries: &mut [u32],
+    lengths: &mut [u32],
+    n: &mut u32,
+    documents: &mut u32,
+    terms: &mut u32,
+) -> u32
+    ensures { λ r. ⌜ record { answer = record { code = r; outs = now (n .exit) ∷ now (documents .exit) ∷ now (terms .exit) ∷ [] }; slices = now (entries .exit) ∷ now (lengths .exit) ∷ [] } ≡ readLeft (readResult (now (archive .entry)) (now (entries .entry)) (now (lengths .entry))) (now (n .entry) ∷ now (documents .entry) ∷ now (terms .entry) ∷ []) ⌝ }
+{
+    let answer = archive::read(archive, entries, lengths);
+    give::reading(answer, n, documents, terms)
+}
+
+#[no_mangle]
+pub extern "C" fn masuvelior_opened_read(
+    archive: &[u8],
+    entries: &mut [u32],
+    lengths: &mut [u32],
+    n: &mut u32,
+    documents: &mut u32,
+    terms: &mut u32,
+) -> u32
+    requires { ⌜ IsArchive (now archive) ⌝ }
+    ensures { λ r. ⌜ record { answer = record { code = r; outs = now (n .exit) ∷ now (documents .exit) ∷ now (terms .exit) ∷ [] }; slices = now (entries .exit) ∷ now (lengths .exit) ∷ [] } ≡ readLeft (readResult (now (archive .entry)) (now (entries .entry)) (now (lengths .entry))) (now (n .entry) ∷ now (documents .entry) ∷ now (terms .entry) ∷ []) ⌝ }
+{
+    let l = archive::layout_in(archive);
+    let answer = archive::read_opened(archive, l, entries, lengths);
+    give::reading(answer, n, documents, terms)
+}

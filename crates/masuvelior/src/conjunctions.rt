@@ -1,0 +1,63 @@
+// Conjunctions of the terms in a slice, checked and of an archive opened before.
+use crate::give;
+use queries::Terms;
+ghost use mathlib.Core.Path.{_≡_};
+ghost use mathlib.Core.List.{[], _∷_};
+ghost use lib.ListN.{length};
+ghost use Rattle.model.specs.Queries.{conjunctionResult};
+ghost use Rattle.archive.specs.Layout.{IsArchive};
+ghost use Rattle.masuvelior.specs.Left.{pairsLeft};
+ghost use Rattle.masuvelior.specs.Chosen.{Chosen};
+
+// The chosen terms as the question holds them. Nine stand for more than eight, which are refused.
+fn terms_of(chosen: &[u32]) -> Terms
+    ensures { λ q. ⌜ Chosen (now (chosen .entry)) q ⌝ }
+{
+    let mut numbers = [0u32; 8];
+    let size = chosen.len();
+    if 8 < size {
+        return Terms { numbers, size: 9 };
+    }
+    let mut i = 0;
+    while i < size {
+        numbers[i] = chosen[i];
+        i += 1;
+    }
+    Terms {
+        numbers,
+        size: size as u32,
+    }
+}
+
+// The documents under each of the chosen terms.
+#[no_mangle]
+pub extern "C" fn masuvelior_conjunction(
+    archive: &[u8],
+    chosen: &[u32],
+    answers: &mut [u32],
+    listed: &mut u32,
+) -> u32
+    ensures { λ r. ⌜ record { answer = record { code = r; outs = now (listed .exit) ∷ [] }; slices = now (answers .exit) ∷ [] } ≡ pairsLeft (conjunctionResult (now (archive .entry)) (now (chosen .entry)) (length (now (chosen .entry))) (now (answers .entry))) (now (listed .entry) ∷ []) ⌝ }
+{
+    give::number(
+        queries::conjunction(archive, terms_of(chosen), answers),
+        listed,
+    )
+}
+
+#[no_mangle]
+pub extern "C" fn masuvelior_opened_conjunction(
+    archive: &[u8],
+    chosen: &[u32],
+    answers: &mut [u32],
+    listed: &mut u32,
+) -> u32
+    requires { ⌜ IsArchive (now archive) ⌝ }
+    ensures { λ r. ⌜ record { answer = record { code = r; outs = now (listed .exit) ∷ [] }; slices = now (answers .exit) ∷ [] } ≡ pairsLeft (conjunctionResult (now (archive .entry)) (now (chosen .entry)) (length (now (chosen .entry))) (now (answers .entry))) (now (listed .entry) ∷ []) ⌝ }
+{
+    let l = archive::layout_in(archive);
+    give::number(
+        queries::conjunction_opened(archive, l, terms_of(chosen), answers),
+        listed,
+    )
+}

@@ -1,0 +1,138 @@
+// From the answer of an operation to 0 and the out-parameters, or to the number of the refusal: one function for each shape of answer.
+use archive::Range;
+use archive::Reading;
+use archive::Written;
+use queries::Answer;
+use queries::Placed;
+use top_k::Probed;
+use top_k::TopK;
+ghost use mathlib.Core.Path.{_≡_};
+ghost use mathlib.Core.List.{[], _∷_};
+ghost use Prim.Native.Nat.{_^_, _<_};
+ghost use Rattle.archive.specs.Ranges.{boundsIn};
+ghost use Rattle.archive.specs.Reading.{readingOf};
+ghost use Rattle.archive.specs.Writing.{writtenOf};
+ghost use Rattle.queries.specs.Answers.{numberOf, placeOf};
+ghost use Rattle.top_k.specs.Asked.{topKOf, probedOf};
+ghost use Rattle.masuvelior.specs.Left as border;
+ghost use Rattle.masuvelior.specs.Left.{Given, given, single, placed, ended, Narrow};
+
+// The place that stands for 'none'.
+const NONE: u32 = 4294967295;
+
+pub fn number(answer: Answer, out: &mut u32) -> u32
+    ensures { λ r. ⌜ record { code = r; outs = now (out .exit) ∷ [] } ≡ given single (numberOf answer) (now (out .entry) ∷ []) ⌝ }
+{
+    match answer {
+        Answer::Number(x) => {
+            *out = x;
+            0
+        }
+        Answer::Refused(number) => number,
+    }
+}
+
+pub fn place(answer: Placed, out: &mut u32) -> u32
+    ensures { λ r. ⌜ record { code = r; outs = now (out .exit) ∷ [] } ≡ given placed (placeOf answer) (now (out .entry) ∷ []) ⌝ }
+{
+    match answer {
+        Placed::At(p) => {
+            *out = p;
+            0
+        }
+        Placed::Nothing => {
+            *out = NONE;
+            0
+        }
+        Placed::Refused(number) => number,
+    }
+}
+
+pub fn ends(range: Range, first: &mut u32, second: &mut u32) -> u32
+    ensures { λ r. ⌜ record { code = r; outs = now (first .exit) ∷ now (second .exit) ∷ [] } ≡ given border.ends (boundsIn range) (now (first .entry) ∷ now (second .entry) ∷ []) ⌝ }
+{
+    match range {
+        Range::Entries { from, to } => {
+            *first = from;
+            *second = to;
+            0
+        }
+        Range::Refused(number) => number,
+    }
+}
+
+pub fn written(answer: Written, out: &mut usize) -> u32
+    ensures { λ r. ⌜ record { code = r; outs = now (out .exit) ∷ [] } ≡ given single (writtenOf answer) (now (out .entry) ∷ []) ⌝ }
+{
+    match answer {
+        Written::Length(size) => {
+            *out = size;
+            0
+        }
+        Written::Refused(number) => number,
+    }
+}
+
+// n, N and W, which are below 2^32.
+pub fn sizes(
+    entries: usize,
+    documents: usize,
+    terms: usize,
+    first: &mut u32,
+    second: &mut u32,
+    third: &mut u32,
+) -> u32
+    requires { ⌜ (entries < 2 ^ 32) × (documents < 2 ^ 32) × (terms < 2 ^ 32) ⌝ }
+    ensures { λ r. ⌜ _≡_ {A = Given} (record { code = r; outs = now (first .exit) ∷ now (second .exit) ∷ now (third .exit) ∷ [] }) (record { code = 0; outs = entries ∷ documents ∷ terms ∷ [] }) ⌝ }
+{
+    *first = entries as u32;
+    *second = documents as u32;
+    *third = terms as u32;
+    0
+}
+
+pub fn reading(answer: Reading, first: &mut u32, second: &mut u32, third: &mut u32) -> u32
+    requires { ⌜ Narrow answer ⌝ }
+    ensures { λ r. ⌜ record { code = r; outs = now (first .exit) ∷ now (second .exit) ∷ now (third .exit) ∷ [] } ≡ given border.sizes (readingOf answer) (now (first .entry) ∷ now (second .entry) ∷ now (third .entry) ∷ []) ⌝ }
+{
+    match answer {
+        Reading::Read {
+            entries,
+            documents,
+            terms,
+        } => sizes(entries, documents, terms, first, second, third),
+        Reading::Refused(number) => number,
+    }
+}
+
+pub fn top_k(answer: TopK, first: &mut u32, second: &mut u32, third: &mut u32) -> u32
+    ensures { λ r. ⌜ record { code = r; outs = now (first .exit) ∷ now (second .exit) ∷ now (third .exit) ∷ [] } ≡ given ended (topKOf answer) (now (first .entry) ∷ now (second .entry) ∷ now (third .entry) ∷ []) ⌝ }
+{
+    match answer {
+        TopK::Done { listed, openings } => {
+            *first = listed;
+            *second = 0;
+            *third = openings;
+            0
+        }
+        TopK::Spent { listed, allowance } => {
+            *first = listed;
+            *second = 1;
+            *third = allowance;
+            0
+        }
+        TopK::Refused(number) => number,
+    }
+}
+
+pub fn probed(answer: Probed, out: &mut u32) -> u32
+    ensures { λ r. ⌜ record { code = r; outs = now (out .exit) ∷ [] } ≡ given single (probedOf answer) (now (out .entry) ∷ []) ⌝ }
+{
+    match answer {
+        Probed::Pairs(listed) => {
+            *out = listed;
+            0
+        }
+        Probed::Refused(number) => number,
+    }
+}
