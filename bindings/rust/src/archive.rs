@@ -19,7 +19,7 @@ use std::fmt;
 /// assert_eq!(archive.rank(3, 3), Ok(1)); // count of 3 before 3
 /// assert_eq!(archive.select(0, 2), Ok(Some(7))); // place of the second 0
 /// assert_eq!(archive.select(0, 3), Ok(None)); // there is no third
-/// assert_eq!(archive.quantile(Entries(0..8), 4), Ok(2)); // the median
+/// assert_eq!(archive.quantile(Entries(0..8), 4), Ok(2)); // the fifth, if they were sorted
 /// assert_eq!(archive.list(Terms(0..=0))?, [(0, 1), (1, 1), (3, 1)]);
 /// assert_eq!(archive.conjunction(&[0, 0])?, [(0, 2), (1, 2), (3, 2)]); // a term given twice counts twice
 /// assert_eq!(archive.range_of_terms(1..=2), Ok(3..8));
@@ -45,7 +45,7 @@ pub struct Archive<'a> {
 }
 
 impl<'a> Archive<'a> {
-    /// Checks the bytes and borrows them.
+    /// Checks the bytes and borrows them. They must be memory that only Rust writes: read a file, or map one that nobody else changes.
     ///
     /// # Errors
     /// 1 to 9 of the table, where they are no archive.

@@ -36,11 +36,16 @@ pub fn compare(archive: &Archive, library: &Library, question: &Question, slices
 }
 
 fn compare_whole(archive: &Archive, library: &Library, question: &Question) {
-    let mut right = answer(library, question, ROOM);
+    let right = without_work(question, answer(library, question, ROOM));
+    assert_eq!(whole(archive, question), right, "{question:?} of {library:?}");
+}
+
+/// The answer as the crate gives it: the work slice is no part of it.
+fn without_work(question: &Question, mut right: Result<Answer, u32>) -> Result<Answer, u32> {
     if let (Ok(right), false) = (&mut right, *question == Question::Read) {
         right.second.clear();
     }
-    assert_eq!(whole(archive, question), right, "{question:?} of {library:?}");
+    right
 }
 
 fn compare_lent(archive: &Archive, library: &Library, question: &Question, slices: Lent) {
@@ -49,12 +54,10 @@ fn compare_lent(archive: &Archive, library: &Library, question: &Question, slice
         scratch.first.truncate(slices.first / 2 * 2); // pairs are lent
     }
     let size = Lent { first: scratch.first.len(), second: scratch.second.len() };
-    let mut right = answer(library, question, size);
+    let right = answer(library, question, size);
     let after = scratch.after(&right);
-    if let (Ok(right), false) = (&mut right, *question == Question::Read) {
-        right.second.clear();
-    }
     let got = lent(archive, question, &mut scratch);
+    let right = without_work(question, right);
     assert_eq!(got, right, "{question:?}, lent {slices:?}, of {library:?}");
     assert_eq!(scratch, after, "{question:?}, lent {slices:?}, of {library:?}");
 }
