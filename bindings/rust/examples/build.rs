@@ -1,0 +1,51 @@
+//! Builds an archive of a few texts and asks it in memory. With a path it also writes the archive there:
+//!
+//!     cargo run --example build -- harbour.archive
+use masuvelior::Over::Terms;
+use masuvelior::{per_mille, write, Archive};
+use std::collections::BTreeMap;
+use std::error::Error;
+
+const TEXTS: [&str; 5] = [
+    "the tide is low and the harbour is closed",
+    "the harbour is open at high tide",
+    "a boat waits for the tide",
+    "the boat left the harbour before the storm",
+    "storm and tide and storm again",
+];
+
+fn main() -> Result<(), Box<dyn Error>> {
+    // Each term, in dictionary order, with the document of each of its occurrences.
+    let mut terms: BTreeMap<&str, Vec<u32>> = BTreeMap::new();
+    for (document, text) in (0..).zip(TEXTS) {
+        for word in text.split_whitespace() {
+            terms.entry(word).or_default().push(document);
+        }
+    }
+    let entries: Vec<u32> = terms.values().flatten().copied().collect();
+    let lengths: Vec<u32> = terms.values().map(|of| of.len() as u32).collect();
+
+    let bytes = write(&entries, &lengths, TEXTS.len() as u32)?;
+    let archive = Archive::open(&bytes)?;
+    println!("{archive:?} in {} bytes", bytes.len());
+
+    let numbers: BTreeMap<&str, u32> = terms.keys().copied().zip(0..).collect();
+    println!("both 'harbour' and 'tide':");
+    for found in archive.conjunction(&[numbers["harbour"], numbers["tide"]])? {
+        println!("  {} times: {}", found.count, TEXTS[found.document as usize]);
+    }
+
+    // Neighbours in the dictionary are one range: 'storm' to 'tide' has 'the' between them.
+    let range = numbers["storm"]..=numbers["tide"];
+    let size = archive.range_of_terms(range.clone())?.len() as u32;
+    println!("most of 'storm' to 'tide':");
+    for found in archive.probing(Terms(range), 2)? {
+        let rate = per_mille(found.count, size)?;
+        println!("  {rate} per mille: {}", TEXTS[found.document as usize]);
+    }
+
+    if let Some(path) = std::env::args_os().nth(1) {
+        std::fs::write(path, &bytes)?;
+    }
+    Ok(())
+}

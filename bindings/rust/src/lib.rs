@@ -1,0 +1,48 @@
+//! Masuvelior from Rust: an archive of document numbers, its writer and reader, and the questions asked of it.
+//!
+//! The code below this crate is proved: each answer is the one that the plain list of entries gives, for every input. This crate only
+//! hands slices over. What the proofs assume of a caller is kept by Rust's borrows: [`Archive::open`] checks the bytes once and borrows
+//! them, so nobody can change them while questions are asked, and no question needs a second check.
+//!
+//! Words: an archive has n entries, N documents and W terms, all numbered from 0. An entry is the number of the document in which a term
+//! occurs; the entries of term 0 come first. `docs/FORMAT.md` in the repository has all of it in print.
+//!
+//! ```
+//! use masuvelior::Over::{Entries, Terms};
+//! use masuvelior::{write, Archive, Ended};
+//!
+//! // Eight entries: three under term 0, none under term 1, five under term 2.
+//! let bytes = write(&[3, 1, 0, 3, 2, 1, 3, 0], &[3, 0, 5], 4)?;
+//! let archive = Archive::open(&bytes)?;
+//!
+//! assert_eq!(archive.rank(3, 8)?, 3); // document 3 occurs three times
+//! assert_eq!(archive.conjunction(&[0, 2])?, [(0, 2), (1, 2), (3, 3)]); // documents under both terms
+//!
+//! // The two most frequent documents of all terms. Nine nodes may be opened, three are.
+//! let (documents, ended) = archive.greedy(Terms(0..=2), 2, 9)?;
+//! assert_eq!(documents, [(3, 3), (0, 2)]);
+//! assert_eq!(ended, Ended::Done { openings: 3 });
+//!
+//! assert_eq!(archive.list(Entries(3..5))?, [(2, 1), (3, 1)]);
+//! # Ok::<(), masuvelior::Refusal>(())
+//! ```
+#![warn(missing_docs)]
+#![deny(unsafe_op_in_unsafe_fn)]
+
+mod archive;
+mod counted;
+mod per_mille;
+mod questions;
+mod range;
+mod refusal;
+mod sys;
+mod top_k;
+mod write;
+
+pub use archive::Archive;
+pub use counted::Counted;
+pub use per_mille::per_mille;
+pub use range::Over;
+pub use refusal::Refusal;
+pub use top_k::Ended;
+pub use write::{archive_length, write, write_into};

@@ -1,0 +1,145 @@
+//! The questions asked of an archive; top-k has a file of its own.
+use crate::archive::Archive;
+use crate::counted::{numbers, room, Counted};
+use crate::range::{term_ends, Over};
+use crate::refusal::{outcome, Refusal};
+use crate::sys;
+use std::ops::{Range, RangeInclusive};
+
+/// Questions of one number.
+impl Archive<'_> {
+    /// The entry at a place.
+    ///
+    /// # Errors
+    /// 11 where the place is n or more.
+    pub fn access(&self, place: u32) -> Result<u32, Refusal> {
+        let (archive, length) = self.lent();
+        let mut document = 0;
+        // SAFETY: POINTERS, WRITTEN and CONST by the references; OPENED by `Archive::open`, the only maker of an `Archive`.
+        let answer = unsafe { sys::masuvelior_opened_access(archive, length, place, &mut document) };
+        outcome(answer, document)
+    }
+
+    /// How many entries before a place are this document; the place may be n.
+    ///
+    /// # Errors
+    /// 11 where the document is N or more, or the place is above n.
+    pub fn rank(&self, document: u32, place: u32) -> Result<u32, Refusal> {
+        let (archive, length) = self.lent();
+        let mut count = 0;
+        // SAFETY: POINTERS, WRITTEN and CONST by the references; OPENED by `Archive::open`, the only maker of an `Archive`.
+        let answer = unsafe { sys::masuvelior_opened_rank(archive, length, document, place, &mut count) };
+        outcome(answer, count)
+    }
+
+    /// The place of the j-th entry that is this document, j from 1, if there are so many.
+    ///
+    /// # Errors
+    /// 11 where the document is N or more, or j is 0.
+    pub fn select(&self, document: u32, j: u32) -> Result<Option<u32>, Refusal> {
+        let (archive, length) = self.lent();
+        let mut place = 0;
+        // SAFETY: POINTERS, WRITTEN and CONST by the references; OPENED by `Archive::open`, the only maker of an `Archive`.
+        let answer = unsafe { sys::masuvelior_opened_select(archive, length, document, j, &mut place) };
+        outcome(answer, (place != sys::NONE).then_some(place))
+    }
+
+    /// The document at rank r, from 0, if the range were sorted.
+    ///
+    /// # Errors
+    /// 11 where the range is crossed or reaches past the archive, or r is not below its size.
+    pub fn quantile(&self, over: Over, r: u32) -> Result<u32, Refusal> {
+        let ask = match over {
+            Over::Entries(_) => sys::masuvelior_opened_quantile,
+            Over::Terms(_) => sys::masuvelior_opened_quantile_terms,
+        };
+        let (from, to) = over.ends();
+        let (archive, length) = self.lent();
+        let mut document = 0;
+        // SAFETY: POINTERS, WRITTEN and CONST by the references; OPENED by `Archive::open`, the only maker of an `Archive`.
+        let answer = unsafe { ask(archive, length, from, to, r, &mut document) };
+        outcome(answer, document)
+    }
+
+    /// The entries of the terms first to last, from the start of the first to the end of the last.
+    ///
+    /// # Errors
+    /// 11 where the terms are crossed, or one is W or more.
+    pub fn range_of_terms(&self, terms: RangeInclusive<u32>) -> Result<Range<u32>, Refusal> {
+        let (first, last) = term_ends(&terms);
+        let (archive, length) = self.lent();
+        let (mut from, mut to) = (0, 0);
+        // SAFETY: POINTERS, WRITTEN and CONST by the references; OPENED by `Archive::open`, the only maker of an `Archive`.
+        let answer = unsafe { sys::masuvelior_opened_range_of_terms(archive, length, first, last, &mut from, &mut to) };
+        outcome(answer, from..to)
+    }
+}
+
+/// Questions of documents with their counts.
+impl Archive<'_> {
+    /// Every document of the range once, ascending, with its count.
+    ///
+    /// # Errors
+    /// 11 where the range is crossed or reaches past the archive.
+    pub fn list(&self, over: Over) -> Result<Vec<Counted>, Refusal> {
+        let mut answers = room(self.documents() as usize);
+        let listed = self.list_into(over, &mut answers)?.len();
+        answers.truncate(listed);
+        Ok(answers)
+    }
+
+    /// The same in the front of a slice of the caller's, whose rest is untouched.
+    ///
+    /// # Errors
+    /// As [`list`](Archive::list), and 12 where the slice has under N pairs.
+    pub fn list_into<'b>(&self, over: Over, answers: &'b mut [Counted]) -> Result<&'b [Counted], Refusal> {
+        let ask = match over {
+            Over::Entries(_) => sys::masuvelior_opened_list,
+            Over::Terms(_) => sys::masuvelior_opened_list_terms,
+        };
+        let (from, to) = over.ends();
+        let (archive, length) = self.lent();
+        let (pairs, pairs_length) = numbers(answers);
+        let mut listed = 0;
+        // SAFETY: POINTERS, WRITTEN and CONST by the references; OPENED by `Archive::open`, the only maker of an `Archive`.
+        let answer = unsafe { ask(archive, length, from, to, pairs, pairs_length, &mut listed) };
+        outcome(answer, ())?;
+        Ok(&answers[..listed as usize])
+    }
+
+    /// The documents with an entry under each of one to eight terms, ascending, with the sum of their counts; a term given twice counts
+    /// twice.
+    ///
+    /// # Errors
+    /// 10 for no term or more than eight; 11 where a term is W or more.
+    pub fn conjunction(&self, terms: &[u32]) -> Result<Vec<Counted>, Refusal> {
+        let mut answers = room(self.documents() as usize);
+        let listed = self.conjunction_into(terms, &mut answers)?.len();
+        answers.truncate(listed);
+        Ok(answers)
+    }
+
+    /// The same in the front of a slice of the caller's, whose rest is untouched.
+    ///
+    /// # Errors
+    /// As [`conjunction`](Archive::conjunction), and 12 where the slice has under N pairs.
+    pub fn conjunction_into<'b>(&self, terms: &[u32], answers: &'b mut [Counted]) -> Result<&'b [Counted], Refusal> {
+        let (archive, archive_length) = self.lent();
+        let (pairs, pairs_length) = numbers(answers);
+        let mut listed = 0;
+        // SAFETY: POINTERS, WRITTEN and CONST by the references; OPENED by `Archive::open`, the only maker of an `Archive`.
+        let answer = unsafe {
+            sys::masuvelior_opened_conjunction(
+                archive,
+                archive_length,
+                terms.as_ptr(),
+                terms.len(),
+                pairs,
+                pairs_length,
+                &mut listed,
+            )
+        };
+        outcome(answer, ())?;
+        Ok(&answers[..listed as usize])
+    }
+}

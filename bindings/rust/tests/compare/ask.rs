@@ -1,0 +1,126 @@
+//! Questions put through the crate: in vectors of its own, and in slices that we lend.
+use crate::questions::{Answer, Question, Span};
+use crate::sys;
+use masuvelior::{Archive, Counted, Ended, Over, Refusal};
+
+/// Slices to lend, full of numbers that differ from each other.
+#[derive(Clone, Debug, PartialEq)]
+pub struct Scratch {
+    pub first: Vec<u32>,
+    pub second: Vec<u32>,
+}
+
+impl Scratch {
+    /// So many numbers in each.
+    pub fn new(first: usize, second: usize) -> Scratch {
+        let junk = |from: u32, length: usize| (from..).take(length).collect();
+        Scratch { first: junk(0xA5A5_0000, first), second: junk(0x5A5A_0000, second) }
+    }
+
+    /// What must be in them after this answer: its fronts, and the rest as it was; all as it was after a refusal.
+    pub fn after(&self, answer: &Result<Answer, u32>) -> Scratch {
+        let mut after = self.clone();
+        if let Ok(answer) = answer {
+            after.first[..answer.first.len()].copy_from_slice(&answer.first);
+            after.second[..answer.second.len()].copy_from_slice(&answer.second);
+        }
+        after
+    }
+}
+
+pub fn over(span: Span) -> Over {
+    match span {
+        Span::Entries(a, b) => Over::Entries(a..b),
+        Span::Terms(first, last) => Over::Terms(first..=last),
+    }
+}
+
+/// The question through the crate, in vectors of its own. The work slice is not seen.
+pub fn whole(archive: &Archive, question: &Question) -> Result<Answer, u32> {
+    let answer = match question {
+        Question::Read => {
+            let (first, second) = archive.read();
+            return Ok(Answer {
+                numbers: vec![archive.entries(), archive.documents(), archive.terms()],
+                first,
+                second,
+            });
+        }
+        Question::Greedy { span, k, allowance } => {
+            archive.greedy(over(*span), *k, *allowance).map(|(found, ended)| greedy(&found, ended))
+        }
+        Question::Probing { span, k } => archive.probing(over(*span), *k).map(|found| pairs(&found)),
+        Question::List { span } => archive.list(over(*span)).map(|found| pairs(&found)),
+        Question::Conjunction { terms } => archive.conjunction(terms).map(|found| pairs(&found)),
+        _ => numbers(archive, question),
+    };
+    answer.map_err(Refusal::number)
+}
+
+/// The question through the crate, in the slices of `scratch`.
+pub fn lent(archive: &Archive, question: &Question, scratch: &mut Scratch) -> Result<Answer, u32> {
+    if *question == Question::Read {
+        let read = archive.read_into(&mut scratch.first, &mut scratch.second);
+        return read.map_err(Refusal::number).map(|()| Answer {
+            numbers: vec![archive.entries(), archive.documents(), archive.terms()],
+            first: scratch.first[..archive.entries() as usize].to_vec(),
+            second: scratch.second[..archive.terms() as usize].to_vec(),
+        });
+    }
+    let mut lent: Vec<Counted> = scratch.first.chunks_exact(2).map(|pair| Counted::from((pair[0], pair[1]))).collect();
+    let answer = lent_pairs(archive, question, &mut lent, &mut scratch.second);
+    scratch.first = flat(&lent);
+    answer.map_err(Refusal::number)
+}
+
+fn lent_pairs(
+    archive: &Archive,
+    question: &Question,
+    lent: &mut [Counted],
+    work: &mut [u32],
+) -> Result<Answer, Refusal> {
+    match question {
+        Question::List { span } => archive.list_into(over(*span), lent).map(pairs),
+        Question::Conjunction { terms } => archive.conjunction_into(terms, lent).map(pairs),
+        Question::Greedy { span, k, allowance } => {
+            archive.greedy_into(over(*span), *k, *allowance, lent, work).map(|(found, ended)| greedy(found, ended))
+        }
+        Question::Probing { span, k } => archive.probing_into(over(*span), *k, lent, work).map(pairs),
+        _ => numbers(archive, question),
+    }
+}
+
+/// Questions of one or two numbers.
+fn numbers(archive: &Archive, question: &Question) -> Result<Answer, Refusal> {
+    let numbers = match *question {
+        Question::Access { place } => vec![archive.access(place)?],
+        Question::Rank { document, place } => vec![archive.rank(document, place)?],
+        Question::Select { document, j } => {
+            vec![archive.select(document, j)?.unwrap_or(sys::NONE)]
+        }
+        Question::Quantile { span, r } => vec![archive.quantile(over(span), r)?],
+        Question::RangeOfTerms { first, last } => {
+            let range = archive.range_of_terms(first..=last)?;
+            vec![range.start, range.end]
+        }
+        _ => unreachable!("not of numbers: {question:?}"),
+    };
+    Ok(Answer { numbers, ..Answer::default() })
+}
+
+fn flat(found: &[Counted]) -> Vec<u32> {
+    found.iter().flat_map(|pair| [pair.document, pair.count]).collect()
+}
+
+fn pairs(found: &[Counted]) -> Answer {
+    Answer { numbers: vec![found.len() as u32], first: flat(found), second: vec![] }
+}
+
+fn greedy(found: &[Counted], ended: Ended) -> Answer {
+    let mut answer = pairs(found);
+    answer.numbers.extend(match ended {
+        Ended::Done { openings } => [0, openings],
+        Ended::Spent { allowance } => [1, allowance],
+    });
+    answer
+}

@@ -1,0 +1,50 @@
+//! The declarations in `src/sys.rs` are those of the C header, all of them.
+
+const HEADER: &str = include_str!("../../../c/masuvelior.h");
+const DECLARED: &str = include_str!("../../src/sys.rs");
+
+/// The header without its comments.
+fn code() -> String {
+    let mut code = String::new();
+    for part in HEADER.split("*/") {
+        code += part.split("/*").next().unwrap();
+    }
+    code
+}
+
+/// A parameter of C as Rust writes it.
+fn parameter(c: &str) -> String {
+    let name = c.rsplit([' ', '*']).next().unwrap();
+    let kind = match c.strip_suffix(name).unwrap().trim() {
+        "uint32_t" => "u32",
+        "size_t" => "usize",
+        "const uint8_t *" => "*const u8",
+        "const uint32_t *" => "*const u32",
+        "uint8_t *" => "*mut u8",
+        "uint32_t *" => "*mut u32",
+        "size_t *" => "*mut usize",
+        kind => panic!("a type without a name in Rust: {kind}"),
+    };
+    format!("{name}: {kind}")
+}
+
+/// A function of C as `src/sys.rs` declares it. All answer a `uint32_t`.
+fn declaration(c: &str) -> Option<String> {
+    let (_, function) = c.split_once("uint32_t masuvelior_")?;
+    let (name, parameters) = function.trim_end().strip_suffix(')')?.split_once('(')?;
+    let parameters: Vec<String> =
+        parameters.split(',').map(|c| parameter(&c.split_whitespace().collect::<Vec<_>>().join(" "))).collect();
+    Some(format!("masuvelior_{name}({});", parameters.join(", ")))
+}
+
+#[test]
+fn declared_as_in_the_header() {
+    let functions: Vec<String> = code().split(';').filter_map(declaration).collect();
+    let declared: Vec<&str> = DECLARED.lines().map(str::trim).filter(|line| line.starts_with("masuvelior_")).collect();
+    for function in &functions {
+        assert!(declared.contains(&function.as_str()), "not declared: {function}");
+    }
+    assert_eq!(declared.len(), functions.len());
+    assert_eq!(functions.len(), code().matches("uint32_t masuvelior_").count());
+    assert!(functions.len() >= 32);
+}

@@ -1,0 +1,111 @@
+//! What `docs/FORMAT.md` prints: the refusals' sentences, and the answers for its libraries.
+use masuvelior::Over::{Entries, Terms};
+use masuvelior::{per_mille, write, Archive, Ended, Refusal};
+
+const FORMAT: &str = include_str!("../../../../docs/FORMAT.md");
+
+#[test]
+fn sentences_are_those_in_print() {
+    for (number, refusal) in (1..).zip(Refusal::ALL) {
+        assert_eq!(refusal.number(), number);
+        assert_eq!(Refusal::from_number(number), Some(refusal));
+        let line = format!("{number} {refusal}");
+        assert!(FORMAT.contains(&line), "docs/FORMAT.md has no: {line}");
+    }
+    assert_eq!(Refusal::from_number(0), None);
+    assert_eq!(Refusal::from_number(18), None);
+}
+
+#[test]
+fn the_small_library() -> Result<(), Refusal> {
+    let bytes = write(&[3, 1, 0, 3, 2, 1, 3, 0], &[3, 0, 5], 4)?;
+    assert_eq!(bytes.len(), 74);
+    assert_eq!(bytes[72..], [0x59, 0xB5]);
+    let archive = Archive::open(&bytes)?;
+    assert_eq!(archive.access(4)?, 2);
+    assert_eq!((archive.rank(3, 8)?, archive.rank(3, 3)?), (3, 1));
+    assert_eq!((archive.select(0, 2)?, archive.select(0, 3)?), (Some(7), None));
+    assert_eq!(archive.quantile(Entries(0..8), 4)?, 2);
+    assert_eq!(archive.quantile(Terms(0..=2), 7)?, 3);
+    assert_eq!(archive.conjunction(&[0, 2])?, [(0, 2), (1, 2), (3, 3)]);
+    assert_eq!(archive.conjunction(&[0, 0])?, [(0, 2), (1, 2), (3, 2)]);
+    assert!(archive.conjunction(&[0, 1])?.is_empty());
+    assert_eq!(per_mille(3, 16)?, 187);
+    Ok(())
+}
+
+#[test]
+fn top_k_of_the_small_library() -> Result<(), Refusal> {
+    let bytes = write(&[3, 1, 0, 3, 2, 1, 3, 0], &[3, 0, 5], 4)?;
+    let archive = Archive::open(&bytes)?;
+    let (done, spent) = (|openings| Ended::Done { openings }, |allowance| Ended::Spent { allowance });
+    let cases: [(_, _, _, &[(u32, u32)], _); 6] = [
+        (0..8, 2, 9, &[(3, 3), (0, 2)], done(3)),
+        (0..8, 1, 2, &[], spent(2)),
+        (1..4, 3, 2, &[(0, 1), (1, 1)], spent(2)),
+        (1..4, 3, 3, &[(0, 1), (1, 1), (3, 1)], done(3)),
+        (3..5, 1, 2, &[(2, 1)], done(2)),
+        (4..4, 5, 0, &[], done(0)),
+    ];
+    for (range, k, allowance, documents, ended) in cases {
+        let got = archive.greedy(Entries(range.clone()), k, allowance)?;
+        assert_eq!(got.0, documents, "{range:?}, k {k}, allowance {allowance}");
+        assert_eq!(got.1, ended, "{range:?}, k {k}, allowance {allowance}");
+    }
+    Ok(())
+}
+
+#[test]
+fn one_document_has_no_rows() -> Result<(), Refusal> {
+    let bytes = write(&[0; 3], &[3], 1)?;
+    let (documents, ended) = Archive::open(&bytes)?.greedy(Entries(0..3), 1, 0)?;
+    assert_eq!(documents, [(0, 3)]);
+    assert_eq!(ended, Ended::Done { openings: 0 });
+    Ok(())
+}
+
+#[test]
+fn another_length_is_refused() -> Result<(), Refusal> {
+    let mut bytes = write(&[3, 1, 0, 3, 2, 1, 3, 0], &[3, 0, 5], 4)?;
+    assert_eq!(Archive::open(&bytes[..73]).err(), Some(Refusal::Length));
+    bytes.push(0);
+    assert_eq!(Archive::open(&bytes).err(), Some(Refusal::Length));
+    Ok(())
+}
+
+/// The rows are a wavelet tree's and no matrix's, which would have 02 01 01.
+#[test]
+fn rows_of_a_tree() -> Result<(), Refusal> {
+    let bytes = write(&[2, 5], &[2], 8)?;
+    assert_eq!(bytes[bytes.len() - 3..], [0x02, 0x01, 0x02]);
+    Ok(())
+}
+
+#[test]
+fn three_rows_and_two_samples_a_row() -> Result<(), Refusal> {
+    let entries: Vec<u32> = (0..600).map(|i| (5 * i + i / 9) % 7).collect();
+    let bytes = write(&entries, &[200, 400], 7)?;
+    assert_eq!(bytes.len(), 305);
+    for (sample, at) in [(219, 60), (227, 68), (256, 76)] {
+        assert_eq!(bytes[at..at + 4], u32::to_le_bytes(sample));
+    }
+    let archive = Archive::open(&bytes)?;
+    assert_eq!(archive.access(123)?, 5);
+    assert_eq!(archive.rank(3, 123)?, 17);
+    assert_eq!(archive.select(6, 10)?, Some(67));
+    assert_eq!(archive.quantile(Entries(0..600), 300)?, 3);
+    Ok(())
+}
+
+/// Terms that were iterated to their end are none, and so refused.
+#[test]
+fn exhausted_terms() -> Result<(), Refusal> {
+    let bytes = write(&[0, 0], &[1, 1], 1)?;
+    let archive = Archive::open(&bytes)?;
+    let mut terms = 0..=1;
+    assert_eq!(archive.range_of_terms(terms.clone())?, 0..2);
+    assert_eq!(terms.by_ref().count(), 2);
+    assert_eq!(archive.range_of_terms(terms.clone()), Err(Refusal::Argument));
+    assert_eq!(archive.list(Terms(terms)), Err(Refusal::Argument));
+    Ok(())
+}

@@ -1,0 +1,261 @@
+//! The model of the questions, after `docs/FORMAT.md`: plain counts over the plain list.
+use crate::library::{height, Library};
+
+/// A range: entries a to b, or terms first to last.
+#[derive(Clone, Copy, Debug, PartialEq)]
+pub enum Span {
+    Entries(u32, u32),
+    Terms(u32, u32),
+}
+
+/// A question with its arguments.
+#[derive(Clone, Debug, PartialEq)]
+pub enum Question {
+    Read,
+    Access { place: u32 },
+    Rank { document: u32, place: u32 },
+    Select { document: u32, j: u32 },
+    Quantile { span: Span, r: u32 },
+    List { span: Span },
+    Conjunction { terms: Vec<u32> },
+    RangeOfTerms { first: u32, last: u32 },
+    Greedy { span: Span, k: u32, allowance: u32 },
+    Probing { span: Span, k: u32 },
+}
+
+/// How many numbers are lent in the first slice (answers, or entries) and in the second (work, or term lengths).
+#[derive(Clone, Copy, Debug)]
+pub struct Lent {
+    pub first: usize,
+    pub second: usize,
+}
+
+/// Slices that are always long enough.
+pub const ROOM: Lent = Lent { first: usize::MAX, second: usize::MAX };
+
+/// An answer: the numbers that the header's out-parameters get, in its order, and the fronts of the two lent slices.
+#[derive(Clone, Debug, Default, PartialEq)]
+pub struct Answer {
+    pub numbers: Vec<u32>,
+    pub first: Vec<u32>,
+    pub second: Vec<u32>,
+}
+
+/// The place that the header gives where there is none.
+const NONE: u32 = u32::MAX;
+
+type Pairs = Vec<(u32, u32)>;
+
+/// What the library answers, or the number of the refusal: the lowest that applies.
+pub fn answer(library: &Library, question: &Question, lent: Lent) -> Result<Answer, u32> {
+    match question {
+        Question::Read => read(library, lent),
+        Question::Access { place } => one(access(library, *place)),
+        Question::Rank { document, place } => one(rank(library, *document, *place)),
+        Question::Select { document, j } => one(select(library, *document, *j)),
+        Question::Quantile { span, r } => one(quantile(library, *span, *r)),
+        Question::List { span } => {
+            let found = listing(part(library, *span)?, library.documents);
+            let room = 2 * library.documents as usize;
+            enough(lent.first, room, 12)?;
+            Ok(listed(found))
+        }
+        Question::Conjunction { terms } => {
+            let found = conjunction(library, terms)?;
+            enough(lent.first, 2 * library.documents as usize, 12)?;
+            Ok(listed(found))
+        }
+        Question::RangeOfTerms { first, last } => {
+            let (from, to) = term_range(library, *first, *last)?;
+            Ok(Answer { numbers: vec![from as u32, to as u32], ..Answer::default() })
+        }
+        Question::Greedy { span, k, allowance } => {
+            let range = part(library, *span)?;
+            top_k_room(library, *k, lent)?;
+            Ok(greedy(library, range, *k, *allowance))
+        }
+        Question::Probing { span, k } => {
+            let range = part(library, *span)?;
+            top_k_room(library, *k, lent)?;
+            let found = listed(full_list(range, library.documents, *k));
+            Ok(with_work(found, library))
+        }
+    }
+}
+
+fn one(number: Result<u32, u32>) -> Result<Answer, u32> {
+    number.map(|number| Answer { numbers: vec![number], ..Answer::default() })
+}
+
+fn enough(lent: usize, room: usize, refusal: u32) -> Result<(), u32> {
+    if lent < room {
+        return Err(refusal);
+    }
+    Ok(())
+}
+
+fn top_k_room(library: &Library, k: u32, lent: Lent) -> Result<(), u32> {
+    enough(lent.first, 2 * k.min(library.documents) as usize, 12)?;
+    enough(lent.second, 4 * library.documents as usize, 13)
+}
+
+/// An answer of pairs: how many, and the pairs one number after the other.
+fn listed(pairs: Pairs) -> Answer {
+    Answer {
+        numbers: vec![pairs.len() as u32],
+        first: pairs.iter().flat_map(|pair| [pair.0, pair.1]).collect(),
+        second: vec![],
+    }
+}
+
+/// After top-k the first 4 × N numbers of the work slice are 0.
+fn with_work(found: Answer, library: &Library) -> Answer {
+    Answer { second: vec![0; 4 * library.documents as usize], ..found }
+}
+
+fn read(library: &Library, lent: Lent) -> Result<Answer, u32> {
+    enough(lent.first, library.entries.len(), 12)?;
+    enough(lent.second, library.lengths.len(), 12)?;
+    Ok(Answer {
+        numbers: vec![library.entries.len() as u32, library.documents, library.lengths.len() as u32],
+        first: library.entries.clone(),
+        second: library.lengths.clone(),
+    })
+}
+
+fn access(library: &Library, place: u32) -> Result<u32, u32> {
+    library.entries.get(place as usize).copied().ok_or(11)
+}
+
+fn rank(library: &Library, document: u32, place: u32) -> Result<u32, u32> {
+    if document >= library.documents || place as usize > library.entries.len() {
+        return Err(11);
+    }
+    let before = &library.entries[..place as usize];
+    Ok(before.iter().filter(|entry| **entry == document).count() as u32)
+}
+
+fn select(library: &Library, document: u32, j: u32) -> Result<u32, u32> {
+    if document >= library.documents || j == 0 {
+        return Err(11);
+    }
+    let mut places = (0u32..).zip(&library.entries).filter(|(_, entry)| **entry == document);
+    Ok(places.nth(j as usize - 1).map_or(NONE, |(place, _)| place))
+}
+
+fn quantile(library: &Library, span: Span, r: u32) -> Result<u32, u32> {
+    let mut sorted = part(library, span)?.to_vec();
+    sorted.sort();
+    sorted.get(r as usize).copied().ok_or(11)
+}
+
+/// Where the terms first to last start and end.
+fn term_range(library: &Library, first: u32, last: u32) -> Result<(usize, usize), u32> {
+    if first > last || last as usize >= library.lengths.len() {
+        return Err(11);
+    }
+    let before = |term: usize| library.lengths[..term].iter().sum::<u32>() as usize;
+    Ok((before(first as usize), before(last as usize + 1)))
+}
+
+/// The entries of a range.
+fn part(library: &Library, span: Span) -> Result<&[u32], u32> {
+    let (a, b) = match span {
+        Span::Entries(a, b) => (a as usize, b as usize),
+        Span::Terms(first, last) => term_range(library, first, last)?,
+    };
+    if a > b || b > library.entries.len() {
+        return Err(11);
+    }
+    Ok(&library.entries[a..b])
+}
+
+/// The count of each number below `size` in the range.
+fn counts(range: &[u32], size: u32) -> Vec<u32> {
+    let mut counts = vec![0; size as usize];
+    for entry in range {
+        counts[*entry as usize] += 1;
+    }
+    counts
+}
+
+/// Every document of the range once, ascending, with its count.
+fn listing(range: &[u32], documents: u32) -> Pairs {
+    (0..documents).zip(counts(range, documents)).filter(|pair| pair.1 > 0).collect()
+}
+
+fn conjunction(library: &Library, terms: &[u32]) -> Result<Pairs, u32> {
+    if terms.is_empty() || terms.len() > 8 {
+        return Err(10);
+    }
+    let mut under_each = Vec::new();
+    for term in terms {
+        let range = part(library, Span::Terms(*term, *term))?;
+        under_each.push(counts(range, library.documents));
+    }
+    let of = |document: u32| under_each.iter().map(move |counts| counts[document as usize]);
+    Ok((0..library.documents)
+        .filter(|document| of(*document).all(|count| count > 0))
+        .map(|document| (document, of(document).sum()))
+        .collect())
+}
+
+/// The first k documents of the range by larger count, then lower number.
+fn full_list(range: &[u32], documents: u32, k: u32) -> Pairs {
+    let mut ranking = listing(range, documents);
+    ranking.sort_by(|x, y| y.1.cmp(&x.1).then(x.0.cmp(&y.0)));
+    ranking.truncate(k as usize);
+    ranking
+}
+
+/// The nodes of two or more numbers: start and count of each.
+fn nodes(range: &[u32], documents: u32) -> Pairs {
+    let h = height(documents);
+    let counts = counts(range, 1 << h);
+    let mut nodes = Vec::new();
+    for depth in 0..h {
+        let size = 1 << (h - depth);
+        for (i, node) in counts.chunks(size).enumerate() {
+            nodes.push(((i * size) as u32, node.iter().sum()));
+        }
+    }
+    nodes
+}
+
+/// The need of a front part of the full list.
+fn need(nodes: &[(u32, u32)], front: &[(u32, u32)]) -> u32 {
+    let Some((last, last_count)) = front.last() else {
+        return 0;
+    };
+    let counts = |node: &&(u32, u32)| {
+        let (start, count) = **node;
+        count > *last_count || count == *last_count && start <= *last
+    };
+    nodes.iter().filter(counts).count() as u32
+}
+
+/// 'Done' with the full list and its need, or 'spent' with the longest front part that the allowance covers.
+fn greedy(library: &Library, range: &[u32], k: u32, allowance: u32) -> Answer {
+    let mut full = full_list(range, library.documents, k);
+    let nodes = nodes(range, library.documents);
+    let needed = need(&nodes, &full);
+    let (spent, number) = if needed <= allowance {
+        (0, needed)
+    } else {
+        let covered = |front: &usize| need(&nodes, &full[..*front]) <= allowance;
+        let front = (0..full.len()).rev().find(covered).unwrap();
+        full.truncate(front);
+        (1, allowance)
+    };
+    let mut found = listed(full);
+    found.numbers.extend([spent, number]);
+    with_work(found, library)
+}
+
+/// The rate.
+pub fn per_mille(count: u32, size: u32) -> Result<u32, u32> {
+    if size == 0 || count > size {
+        return Err(11);
+    }
+    Ok((u64::from(count) * 1_000 / u64::from(size)) as u32)
+}
