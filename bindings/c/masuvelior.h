@@ -1,7 +1,7 @@
 /* Masuvelior for C and for what links C: an archive of document numbers, its writer, reader and check, and the questions asked of it.
  *
- * The library is target/staticlib/libmasuvelior.a, which `rt staticlib masuvelior` proves and builds. It needs nothing beside it, has no
- * state, allocates nothing and may be called from several threads at once.
+ * The library is target/staticlib/libmasuvelior.a, which `rt staticlib masuvelior` proves and builds. It needs no other library
+ * than C's, has no state, allocates nothing and may be called from several threads at once.
  *
  * The answer of each function is 0, or the number of a refusal. Where it is 0 each out-parameter is written, and the lent slices as the
  * function says. Where it is not 0 nothing is written at all.

@@ -1,4 +1,4 @@
-//! The declarations in `src/sys.rs` are those of the C header, all of them.
+//! The declarations in `src/sys.rs` are those of the C header, all of them, and so is what it cites.
 
 const HEADER: &str = include_str!("../../../c/masuvelior.h");
 const DECLARED: &str = include_str!("../../src/sys.rs");
@@ -47,4 +47,16 @@ fn declared_as_in_the_header() {
     assert_eq!(declared.len(), functions.len());
     assert_eq!(functions.len(), code().matches("uint32_t masuvelior_").count());
     assert!(functions.len() >= 32);
+}
+
+/// What the SAFETY comments cite stands in the header, word for word.
+#[test]
+fn sentences_of_the_header() {
+    let words = |text: &str| text.replace(" * ", " ").split_whitespace().collect::<Vec<_>>().join(" ");
+    let header = words(HEADER);
+    let cited = DECLARED.lines().filter_map(|line| line.strip_prefix("//! - ")?.split('"').nth(1));
+    assert_eq!(cited.clone().count(), 4);
+    for sentence in cited {
+        assert!(header.contains(&words(sentence)), "the header has no: {sentence}");
+    }
 }
