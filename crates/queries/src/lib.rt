@@ -1,9 +1,11 @@
 // The questions of an archive, each with its refusals. A name that ends in `_in` is the question without them, of an opened archive.
+mod common;
 mod conjunctions;
 mod entry;
 mod listing;
 mod numbers;
 mod pairs;
+mod path;
 mod quantiles;
 mod ranges;
 

@@ -29,7 +29,7 @@ pub fn rank_node(bytes: &[u8], t: Levels, j: usize, start: usize, end: usize) ->
 pub fn halve_range(bytes: &[u8], t: Levels, j: usize, node: Ranked, lo: usize, hi: usize) -> Halves
     requires { ⌜ Stored (now bytes) t ⌝ }
     requires { ⌜ (j < t .height) × (node ≡ rankedOf (levelOf (now bytes) t j) (node .start) (node .end)) × Ordered (t .entries) (spanIn node lo hi) ⌝ }
-    ensures { λ r. ⌜ r ≡ halvesOf (levelOf (now (bytes .entry)) t j) (spanIn node lo hi) ⌝ }
+    ensures { λ r. ⌜ (r ≡ halvesOf (levelOf (now (bytes .entry)) t j) (spanIn node lo hi)) × Ordered (t .entries) (r .low) × Ordered (t .entries) (r .high) ⌝ }
 {
     let from = ones(bytes, t, j, lo) - node.before;
     let to = ones(bytes, t, j, hi) - node.before;

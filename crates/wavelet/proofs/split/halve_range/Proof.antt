@@ -1,8 +1,12 @@
 use borrow.Author.Needs.{needs}
 use Prim.Native.Nat.{ℕ}
 use native.Mathlib.Omega.{arith}
+use mathlib.Core.Path.{sym, subst}
 use mathlib.Core.List.{List}
+use Rattle.wavelet.specs.declared.Halves.{Halves}
 use Rattle.wavelet.specs.Levels.{levelOf}
+use Rattle.wavelet.specs.Spans.{Ordered, spanIn}
+use Rattle.wavelet.proofs.Spans.{ordered-low, ordered-high}
 use Rattle.wavelet.proofs.RankedNodes.{ranked-lo, ranked-hi, middle-few, halves-ranked}
 use Rattle.wavelet.proofs.split.halve_range.Statement.{statement}
 use Rattle.wavelet.proofs.split.halve_range.Tie as tie
@@ -60,7 +64,12 @@ returns c =
     let s = c .before .before .before .before .before .before .before in
     let g = s .args in
     let bits : List ℕ = levelOf (g .bytes .now) (g .t) (g .j) in
-    halves-ranked bits (g .t .entries) (g .node) (s .pre .1 .1) (g .lo) (g .hi) (s .pre .1 .2) (c .before .before .before .before .before .ones .result) (c .before .before .before .ones2 .result) (c .before .before .before .before .before .ones .ensures .0) (c .before .before .before .ones2 .ensures .0)
+    let o : Ordered (g .t .entries) (spanIn (g .node) (g .lo) (g .hi)) = s .pre .1 .2 in
+    let e = halves-ranked bits (g .t .entries) (g .node) (s .pre .1 .1) (g .lo) (g .hi) (s .pre .1 .2) (c .before .before .before .before .before .ones .result) (c .before .before .before .ones2 .result) (c .before .before .before .before .before .ones .ensures .0) (c .before .before .before .ones2 .ensures .0) in (
+      e,
+      subst (λ (r : Halves). Ordered (g .t .entries) (r .low)) (sym e) (ordered-low bits (g .t .entries) (spanIn (g .node) (g .lo) (g .hi)) o),
+      subst (λ (r : Halves). Ordered (g .t .entries) (r .high)) (sym e) (ordered-high bits (g .t .entries) (spanIn (g .node) (g .lo) (g .hi)) o),
+    )
 
 pub halve-range-spec : {M : Type 1} → statement M
 halve-range-spec =
