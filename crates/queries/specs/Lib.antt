@@ -4,3 +4,4 @@ pub mod Written
 pub mod Ranges
 pub mod Listing
 pub mod Conjunction
+pub mod Paths

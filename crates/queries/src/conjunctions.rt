@@ -1,61 +1,23 @@
 // Conjunction: the documents with an entry under each of several terms, ascending, with the sum of their counts.
 use crate::Answer;
 use crate::Terms;
+use crate::common::next_common;
 use crate::pairs::put_pair;
+use crate::path::put_root;
 use archive::Layout;
 use archive::Opening;
 use archive::open;
-use archive::term_start;
 use wavelet::Next;
-use wavelet::next_document;
 ghost use mathlib.Core.Path.{_≡_};
-ghost use Prim.Native.Nat.{_*_, _≤_, _<_};
+ghost use Prim.Native.Nat.{_*_, _≤_};
 ghost use lib.ListN.{length, take};
 ghost use lib.Dec.{leb};
 ghost use Rattle.model.specs.Lists.{any, overwrite};
 ghost use Rattle.model.specs.Opening.{contents};
 ghost use Rattle.model.specs.Queries as model;
-ghost use Rattle.wavelet.specs.Ranges.{nextOf};
 ghost use Rattle.archive.specs.Layout.{Opened};
 ghost use Rattle.queries.specs.Answers.{pairsOf};
-ghost use Rattle.queries.specs.Conjunction.{Asked, leapOver};
-
-// The next document from `from` upward under a term.
-fn next_under(archive: &[u8], l: Layout, term: usize, from: usize) -> Next
-    requires { ⌜ Opened (now archive) l ⌝ }
-    requires { ⌜ term < l .terms ⌝ }
-    ensures { λ r. ⌜ r ≡ nextOf (l .levels .height) from (model.under (contents (now (archive .entry))) term) ⌝ }
-{
-    let a = term_start(archive, l, term);
-    let b = term_start(archive, l, term + 1);
-    next_document(archive, l.levels, a, b, from)
-}
-
-// From a document to one where the terms may agree: each in turn leads on to its next document. Where none leads further, they agree on it,
-// and the counts are summed.
-fn leap(archive: &[u8], l: Layout, q: Terms, from: usize) -> Next
-    requires { ⌜ Opened (now archive) l ⌝ }
-    requires { ⌜ Asked (l .terms) q ⌝ }
-    ensures { λ r. ⌜ r ≡ leapOver (contents (now (archive .entry))) (l .levels .height) from 0 (take (q .size) (q .numbers)) ⌝ }
-{
-    let size = q.size as usize;
-    let mut at = from;
-    let mut sum = 0;
-    let mut i: usize = 0;
-    while i < size {
-        let term = q.numbers[i] as usize;
-        let Next::Document { document, count } = next_under(archive, l, term, at) else {
-            return Next::Nothing;
-        };
-        at = document;
-        sum += count;
-        i += 1;
-    }
-    Next::Document {
-        document: at,
-        count: sum,
-    }
-}
+ghost use Rattle.queries.specs.Conjunction.{Asked};
 
 // The pairs go into the front of the answers; how many. The walk ends as soon as one term has no further document.
 pub fn conjunction_in(archive: &[u8], l: Layout, q: Terms, answers: &mut [u32]) -> usize
@@ -63,19 +25,17 @@ pub fn conjunction_in(archive: &[u8], l: Layout, q: Terms, answers: &mut [u32]) 
     requires { ⌜ Asked (l .terms) q × (2 * l .documents ≤ length (now answers)) ⌝ }
     ensures { λ r. ⌜ (r ≡ length (model.conjunction (contents (now (archive .entry))) (take (q .size) (q .numbers)))) × (now (answers .exit) ≡ overwrite (model.flat (model.conjunction (contents (now (archive .entry))) (take (q .size) (q .numbers)))) (now (answers .entry))) ⌝ }
 {
+    let mut path = [0u32; 468];
+    put_root(archive, l, q, &mut path);
     let mut found: usize = 0;
     let mut at: usize = 0;
     loop {
-        let Next::Document { document, count } = leap(archive, l, q, at) else {
+        let Next::Document { document, count } = next_common(archive, l, q, at, &mut path) else {
             return found;
         };
-        if document == at {
-            put_pair(answers, found, document, count);
-            found += 1;
-            at += 1;
-        } else {
-            at = document;
-        }
+        put_pair(answers, found, document, count);
+        found += 1;
+        at = document + 1;
     }
 }
 

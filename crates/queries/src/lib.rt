@@ -1,10 +1,12 @@
 // The questions of an archive, each with its refusals. A name that ends in `_opened` is the question of an archive that was opened before; one that
 // ends in `_in` is that without the refusals.
+mod common;
 mod conjunctions;
 mod entry;
 mod listing;
 mod numbers;
 mod pairs;
+mod path;
 mod quantiles;
 mod ranges;
 

@@ -1,6 +1,7 @@
 -- Laws of the levels.
 pub mod Stored
 pub mod Spans
+pub mod RankedNodes
 pub mod Descents
 pub mod Ranges
 pub mod NextDocument

@@ -4,10 +4,12 @@ use mathlib.Core.List.{List}
 use mathlib.Core.Bool.{cond}
 use lib.ListN.{length}
 use lib.Dec.{eqb}
+use Rattle.bit_rows.specs.Sequences.{rank}
 use Rattle.model.proofs.Wavelet.Walk.{left, right, pos}
 use Rattle.wavelet.specs.declared.Span.{Span}
 use Rattle.wavelet.specs.declared.Halves.{Halves}
 use Rattle.wavelet.specs.declared.Place.{Place}
+use Rattle.wavelet.specs.declared.Ranked.{Ranked}
 
 -- the places of a node in a level of n bits are in order
 pub record Ordered (n : ℕ) (s : Span) : Type 0 where
@@ -28,6 +30,14 @@ halvesOf bits s =
 -- the half that a bit leads to
 abbrev pub halfOf : Halves → ℕ → Span
 halfOf two bit = cond (eqb bit 1) (two .high) (two .low)
+
+-- the node with these bounds, and its two ranks as the code keeps them
+abbrev pub rankedOf : List ℕ → ℕ → ℕ → Ranked
+rankedOf bits start end = record { start = start; end = end; before = rank 1 bits start; middle = left bits start end }
+
+-- a range in it
+abbrev pub spanIn : Ranked → ℕ → ℕ → Span
+spanIn node lo hi = record { start = node .start; lo = lo; hi = hi; end = node .end }
 
 -- a place in a node, as an empty range
 abbrev pub spanAt : Place → Span

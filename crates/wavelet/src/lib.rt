@@ -4,6 +4,7 @@ mod descent;
 mod level;
 mod node;
 mod range;
+mod split;
 
 pub use ascent::select;
 pub use descent::access;
@@ -13,6 +14,8 @@ pub use node::halve;
 pub use range::count_below;
 pub use range::next_document;
 pub use range::quantile;
+pub use split::halve_range;
+pub use split::rank_node;
 
 // Where the levels of a tree lie in a byte slice: how many entries, how many rows, and the offsets of the first samples and of the first row.
 pub struct Levels {
@@ -34,6 +37,14 @@ pub struct Span {
 pub struct Halves {
     pub low: Span,
     pub high: Span,
+}
+
+// A node's bounds in its level, the ones before it, and where its high half starts.
+pub struct Ranked {
+    pub start: usize,
+    pub end: usize,
+    pub before: usize,
+    pub middle: usize,
 }
 
 // A node's bounds in its level, and one place in it.
