@@ -8,7 +8,7 @@ use archive::Written;
 use bit_rows::Found;
 use queries::Terms;
 use wavelet::Levels;
-ghost use Prim.Native.Nat.{_-_, _*_, _^_, _≤_, _<_, min};
+ghost use Prim.Native.Nat.{_-_, _*_, _^_, _≤_, _<_};
 ghost use lib.ListN.{length};
 ghost use Rattle.wavelet.specs.Levels.{Stored};
 ghost use Rattle.archive.specs.Layout.{Opened};
