@@ -6,6 +6,7 @@ pub mod Probed
 pub mod Rounds
 pub mod Theorem
 pub mod Slices
+pub mod Places
 pub mod Shifting
 pub mod Entering
 pub mod Steps

@@ -15,7 +15,7 @@ use Rattle.bit_rows.proofs.Tally.{tally-append, tally-le, tally-none, tally-map
 use Rattle.model.specs.Queries.{Pair, pairOf, present, listing}
 use Rattle.model.specs.TopK.{start, countIn, innerNodes, ranking, fullList, last, need, covered}
 use Rattle.model.proofs.Lists.{tally-keep, tally-take-lt}
-use Rattle.model.proofs.Sorting.{Every, every-head, every-tail, every-cons, every-take, Sorted, same-length}
+use Rattle.model.proofs.Sorting.{Every, every-head, every-tail, every-cons, every-take, Sorted, sorted-take, same-length}
 use Rattle.model.proofs.Ranking.{aheadPair, ranking-sorted, ranking-same}
 use Rattle.model.proofs.Greedy.Nodes.{upFrom-once}
 
@@ -47,11 +47,6 @@ front-ahead [] qs s q l = refl
 front-ahead (p ∷ ps) qs s q l =
     let e : Every (aheadPair p) qs = omega (arith, tally-append (λ y. not (aheadPair p y)) ps qs, s .0) in
     every-cons (λ y. aheadPair y q) p ps (every-at (aheadPair p) q qs e l) (front-ahead ps qs (s .1) q l)
-
-sorted-take : (m : ℕ) (ps : List Pair) → Sorted aheadPair ps → Sorted aheadPair (take m ps)
-sorted-take zero ps s = tt
-sorted-take (suc m) [] s = tt
-sorted-take (suc m) (p ∷ ps) s = (every-take (aheadPair p) m ps (s .0), sorted-take m ps (s .1))
 
 -- ---- the full list
 
@@ -99,7 +94,7 @@ module _ (N k : ℕ) (xs : List ℕ) where
 
   -- "larger counts first and equal counts by lower sheet number"
   pub in-order : Sorted aheadPair (fullList N k xs)
-  in-order = sorted-take k ranked (ranking-sorted (listing N xs))
+  in-order = sorted-take aheadPair k ranked (ranking-sorted (listing N xs))
 
   -- "and every other sheet of the range comes after those listed"
   pub others-after : (d : ℕ) → d < N → 0 < occurrences d xs
