@@ -7,7 +7,7 @@ ghost use Rattle.model.specs.Format.{writeResult};
 ghost use Rattle.model.specs.Opening.{opening, readResult};
 ghost use Rattle.archive.specs.Layout.{IsArchive};
 ghost use Rattle.masuvelior.specs.Left.{given, single, sizes, writeLeft, readLeft};
-ghost use Rattle.masuvelior.specs.Chosen.{lengthResult};
+ghost use Rattle.masuvelior.specs.Length.{lengthResult};
 
 // The check on opening.
 #[no_mangle]
