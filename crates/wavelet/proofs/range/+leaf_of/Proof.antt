@@ -4,6 +4,7 @@ use native.Mathlib.Omega.{arith}
 use mathlib.Core.Path.{_∙_}
 use mathlib.Core.Bool.{Bool}
 use lib.Dec.{leb}
+use Rattle.wavelet.specs.declared.Span.{Span}
 use Rattle.wavelet.proofs.Ranges.{node-lt, node-few, byte-le, byte-mul-le, leaf-end, leaf-next, ordered-half}
 use borrow.Fn.Kinds.{In}
 use borrow.Fn.PlainCycle.{Measures, is, falls, and}
@@ -24,7 +25,7 @@ leaf-of-at t = and 1 leaf-of-kinds.ps (is 1 leaf-of-kinds.ps μ-leaf-of t) leaf-
 abbrev leaf-of-below : ℕ → In 1 leaf-of-kinds.ps
 leaf-of-below t = and 1 leaf-of-kinds.ps (falls 1 leaf-of-kinds.ps _<_ μ-leaf-of t) leaf-of.Pre
 
-leaf-of-sub-t12 : (t : ℕ) → leaf-of-lts.Need-sub-t12 (
+leaf-of-sub-t16 : (t : ℕ) → leaf-of-lts.Need-sub-t16 (
   halve-reads.Asked,
   halve-reads.Learnt,
   half-reads.Asked,
@@ -32,7 +33,7 @@ leaf-of-sub-t12 : (t : ℕ) → leaf-of-lts.Need-sub-t12 (
   leaf-of-below t,
   leaf-of.Post,
 ) (leaf-of-at t) leaf-of.Post
-leaf-of-sub-t12 t c = search needs
+leaf-of-sub-t16 t c = search needs
 
 leaf-of-returns : (t : ℕ) → leaf-of-lts.Need-returns (
   halve-reads.Asked,
@@ -43,8 +44,9 @@ leaf-of-returns : (t : ℕ) → leaf-of-lts.Need-returns (
   leaf-of.Post,
 ) (leaf-of-at t) leaf-of.Post
 leaf-of-returns t c =
-    let g = c .before .before .before .before .args in
-    leaf-end (g .bytes .now) (g .t) (g .j) (g .q) (g .s) (g .r) (c .before .if1 .taken)
+    let g = c .before .before .before .args in
+    let s : Span = record { start = g .start; lo = g .lo; hi = g .hi; end = g .end } in
+    leaf-end (g .bytes .now) (g .t) (g .j) (g .q) s (g .r) (c .if1 .taken)
 
 leaf-of-halve-requires : (t : ℕ) → leaf-of-lts.Need-halve-requires (
   halve-reads.Asked,
@@ -76,6 +78,16 @@ leaf-of-cast-bit : (t : ℕ) → leaf-of-lts.Need-cast-bit (
 ) (leaf-of-at t) leaf-of.Post
 leaf-of-cast-bit t c = search needs
 
+leaf-of-half-requires : (t : ℕ) → leaf-of-lts.Need-half-requires (
+  halve-reads.Asked,
+  halve-reads.Learnt,
+  half-reads.Asked,
+  half-reads.Learnt,
+  leaf-of-below t,
+  leaf-of.Post,
+) (leaf-of-at t) leaf-of.Post
+leaf-of-half-requires t c κs = search needs
+
 leaf-of-add-leaf-of : (t : ℕ) → leaf-of-lts.Need-add-leaf-of (
   halve-reads.Asked,
   halve-reads.Learnt,
@@ -95,7 +107,7 @@ leaf-of-mul-leaf-of : (t : ℕ) → leaf-of-lts.Need-mul-leaf-of (
   leaf-of.Post,
 ) (leaf-of-at t) leaf-of.Post
 leaf-of-mul-leaf-of t c =
-    let s = c .before .before .before .before .before .before in
+    let s = c .before .before .before .before .before .before .before in
     let g = s .args in
     omega (arith, node-few (g .q) (g .j) (g .t .height) (s .pre .1 .1 .1) (s .pre .1 .1 .0) (s .pre .1 .0 .low))
 
@@ -108,20 +120,10 @@ leaf-of-add-leaf-of-2 : (t : ℕ) → leaf-of-lts.Need-add-leaf-of-2 (
   leaf-of.Post,
 ) (leaf-of-at t) leaf-of.Post
 leaf-of-add-leaf-of-2 t c =
-    let s = c .before .before .before .before .before .before in
+    let s = c .before .before .before .before .before .before .before in
     let g = s .args in
-    let low = c .before .before .halve .result .low in
+    let low = c .before .before .before .halve .result .low in
     omega (arith, node-few (g .q) (g .j) (g .t .height) (s .pre .1 .1 .1) (s .pre .1 .1 .0) (s .pre .1 .0 .low), byte-le (leb (low .hi - low .lo) (g .r)))
-
-leaf-of-half-requires : (t : ℕ) → leaf-of-lts.Need-half-requires (
-  halve-reads.Asked,
-  halve-reads.Learnt,
-  half-reads.Asked,
-  half-reads.Learnt,
-  leaf-of-below t,
-  leaf-of.Post,
-) (leaf-of-at t) leaf-of.Post
-leaf-of-half-requires t c κs = search needs
 
 leaf-of-mul-leaf-of-2 : (t : ℕ) → leaf-of-lts.Need-mul-leaf-of-2 (
   halve-reads.Asked,
@@ -184,8 +186,9 @@ leaf-of-returns-2 : (t : ℕ) → leaf-of-lts.Need-returns-2 (
 leaf-of-returns-2 t c =
     let s = c .before .before .before .before .before .before .before .before in
     let g = s .args in
+    let n : Span = record { start = g .start; lo = g .lo; hi = g .hi; end = g .end } in
     c .leaf-of .ensures
-    ∙ rw (c .before .half .ensures, c .before .before .before .before .halve .ensures .0) (leaf-next (g .bytes .now) (g .t) (g .j) (g .q) (g .s) (g .r) (omega arith) (s .pre .1 .1 .2))
+    ∙ rw (c .before .half .ensures, c .before .before .before .before .halve .ensures .0) (leaf-next (g .bytes .now) (g .t) (g .j) (g .q) n (g .r) (omega arith) (s .pre .1 .1 .2))
 
 pub +leaf-of-spec : {M : Type 1} → statement M
 +leaf-of-spec = close μ-leaf-of λ t. leaf-of-lts.spec (
@@ -198,15 +201,15 @@ pub +leaf-of-spec : {M : Type 1} → statement M
 )
     (leaf-of-at t)
     leaf-of.Post
-    (leaf-of-sub-t12 t)
+    (leaf-of-sub-t16 t)
     (leaf-of-returns t)
     (leaf-of-halve-requires t)
     (leaf-of-sub-zeros t)
     (leaf-of-cast-bit t)
+    (leaf-of-half-requires t)
     (leaf-of-add-leaf-of t)
     (leaf-of-mul-leaf-of t)
     (leaf-of-add-leaf-of-2 t)
-    (leaf-of-half-requires t)
     (leaf-of-mul-leaf-of-2 t)
     (leaf-of-sub-leaf-of t)
     (leaf-of-leaf-of-requires t)
