@@ -42,28 +42,43 @@ pub fn count_below(bytes: &[u8], t: Levels, a: usize, b: usize, v: usize) -> usi
     below
 }
 
-// The leaf of rank r in the range of the node q of level j: rows that remain fall at each call.
-fn leaf_of(bytes: &[u8], t: Levels, j: usize, q: usize, s: Span, r: usize) -> Counted
+// The leaf of rank r in the range lo to hi of the node q of level j, which spans start to end: rows that remain fall at each call.
+// The places pass as numbers: a struct would be copied on the way.
+fn leaf_of(
+    bytes: &[u8],
+    t: Levels,
+    j: usize,
+    q: usize,
+    start: usize,
+    lo: usize,
+    hi: usize,
+    end: usize,
+    r: usize,
+) -> Counted
     requires { ⌜ Stored (now bytes) t ⌝ }
-    requires { ⌜ (j ≤ t .height) × (q < 2 ^ j) × Ordered (t .entries) s ⌝ }
-    ensures { λ c. ⌜ c ≡ leafOf (now (bytes .entry)) t j q s r ⌝ }
+    requires { ⌜ (j ≤ t .height) × (q < 2 ^ j) × Ordered (t .entries) (record { start = start; lo = lo; hi = hi; end = end }) ⌝ }
+    ensures { λ c. ⌜ c ≡ leafOf (now (bytes .entry)) t j q (record { start = start; lo = lo; hi = hi; end = end }) r ⌝ }
 {
     if j == t.height {
         return Counted {
             document: q,
-            count: s.hi - s.lo,
+            count: hi - lo,
         };
     }
-    let two = halve(bytes, t, j, s);
+    let two = halve(bytes, t, j, Span { start, lo, hi, end });
     let low = two.low;
     let zeros = low.hi - low.lo;
     let bit = (zeros <= r) as usize;
+    let s = half(two, bit);
     leaf_of(
         bytes,
         t,
         j + 1,
         2 * q + bit,
-        half(two, bit),
+        s.start,
+        s.lo,
+        s.hi,
+        s.end,
         r - bit * zeros,
     )
 }
@@ -74,13 +89,7 @@ pub fn quantile(bytes: &[u8], t: Levels, a: usize, b: usize, r: usize) -> Counte
     requires { ⌜ (a ≤ b) × (b ≤ t .entries) × (r < b - a) ⌝ }
     ensures { λ c. ⌜ c ≡ quantileIn (part a b (entriesIn (now (bytes .entry)) t)) r ⌝ }
 {
-    let s = Span {
-        start: 0,
-        lo: a,
-        hi: b,
-        end: t.entries,
-    };
-    leaf_of(bytes, t, 0, 0, s, r)
+    leaf_of(bytes, t, 0, 0, 0, a, b, t.entries, r)
 }
 
 // The smallest document from v upward in the range: its rank there is the number of entries below v.

@@ -33,7 +33,9 @@ abbrev offset-of-below : ℕ → In 1 offset-of-kinds.ps
 offset-of-below t =
     and 1 offset-of-kinds.ps (falls 1 offset-of-kinds.ps _<_ μ-offset-of t) offset-of.Pre
 
-offset-of-sub-at-leaf : (t : ℕ) → offset-of-lts.Need-sub-at-leaf (
+-- what the calls ask and give
+abbrev offset-of-calls : ℕ → offset-of-lts.Claims
+offset-of-calls t = (
   at-leaf-reads.Asked,
   at-leaf-reads.Learnt,
   ones-reads.Asked,
@@ -46,219 +48,52 @@ offset-of-sub-at-leaf : (t : ℕ) → offset-of-lts.Need-sub-at-leaf (
   offset-of.Post,
   up-reads.Asked,
   up-reads.Learnt,
-) (offset-of-at t) offset-of.Post
+)
+
+offset-of-sub-at-leaf : (t : ℕ) → offset-of-lts.Need-sub-at-leaf (offset-of-calls t) (offset-of-at t) offset-of.Post
 offset-of-sub-at-leaf t c = search needs
 
-offset-of-at-leaf-requires : (t : ℕ) → offset-of-lts.Need-at-leaf-requires (
-  at-leaf-reads.Asked,
-  at-leaf-reads.Learnt,
-  ones-reads.Asked,
-  ones-reads.Learnt,
-  ones-from-reads.Asked,
-  ones-from-reads.Learnt,
-  pick-reads.Asked,
-  pick-reads.Learnt,
-  offset-of-below t,
-  offset-of.Post,
-  up-reads.Asked,
-  up-reads.Learnt,
-) (offset-of-at t) offset-of.Post
+offset-of-at-leaf-requires : (t : ℕ) → offset-of-lts.Need-at-leaf-requires (offset-of-calls t) (offset-of-at t) offset-of.Post
 offset-of-at-leaf-requires t c κs = search needs
 
-offset-of-returns : (t : ℕ) → offset-of-lts.Need-returns (
-  at-leaf-reads.Asked,
-  at-leaf-reads.Learnt,
-  ones-reads.Asked,
-  ones-reads.Learnt,
-  ones-from-reads.Asked,
-  ones-from-reads.Learnt,
-  pick-reads.Asked,
-  pick-reads.Learnt,
-  offset-of-below t,
-  offset-of.Post,
-  up-reads.Asked,
-  up-reads.Learnt,
-) (offset-of-at t) offset-of.Post
+offset-of-returns : (t : ℕ) → offset-of-lts.Need-returns (offset-of-calls t) (offset-of-at t) offset-of.Post
 offset-of-returns t c =
     let s = c .before .before .before .before in
     let g = s .args in
     (c .at-leaf .ensures .0 ∙ offset-end (g .bytes .now) (g .t) (g .d) (g .j) (g .start) (g .end) (g .k) (c .before .if1 .taken), omega arith, omega arith)
 
-offset-of-ones-requires : (t : ℕ) → offset-of-lts.Need-ones-requires (
-  at-leaf-reads.Asked,
-  at-leaf-reads.Learnt,
-  ones-reads.Asked,
-  ones-reads.Learnt,
-  ones-from-reads.Asked,
-  ones-from-reads.Learnt,
-  pick-reads.Asked,
-  pick-reads.Learnt,
-  offset-of-below t,
-  offset-of.Post,
-  up-reads.Asked,
-  up-reads.Learnt,
-) (offset-of-at t) offset-of.Post
+offset-of-ones-requires : (t : ℕ) → offset-of-lts.Need-ones-requires (offset-of-calls t) (offset-of-at t) offset-of.Post
 offset-of-ones-requires t c κs = search needs
 
-offset-of-ones-from-requires : (t : ℕ) → offset-of-lts.Need-ones-from-requires (
-  at-leaf-reads.Asked,
-  at-leaf-reads.Learnt,
-  ones-reads.Asked,
-  ones-reads.Learnt,
-  ones-from-reads.Asked,
-  ones-from-reads.Learnt,
-  pick-reads.Asked,
-  pick-reads.Learnt,
-  offset-of-below t,
-  offset-of.Post,
-  up-reads.Asked,
-  up-reads.Learnt,
-) (offset-of-at t) offset-of.Post
+offset-of-ones-from-requires : (t : ℕ) → offset-of-lts.Need-ones-from-requires (offset-of-calls t) (offset-of-at t) offset-of.Post
 offset-of-ones-from-requires t c κs = search needs
 
-offset-of-sub-middle : (t : ℕ) → offset-of-lts.Need-sub-middle (
-  at-leaf-reads.Asked,
-  at-leaf-reads.Learnt,
-  ones-reads.Asked,
-  ones-reads.Learnt,
-  ones-from-reads.Asked,
-  ones-from-reads.Learnt,
-  pick-reads.Asked,
-  pick-reads.Learnt,
-  offset-of-below t,
-  offset-of.Post,
-  up-reads.Asked,
-  up-reads.Learnt,
-) (offset-of-at t) offset-of.Post
+offset-of-sub-middle : (t : ℕ) → offset-of-lts.Need-sub-middle (offset-of-calls t) (offset-of-at t) offset-of.Post
 offset-of-sub-middle t c = search needs
 
-offset-of-sub-middle-2 : (t : ℕ) → offset-of-lts.Need-sub-middle-2 (
-  at-leaf-reads.Asked,
-  at-leaf-reads.Learnt,
-  ones-reads.Asked,
-  ones-reads.Learnt,
-  ones-from-reads.Asked,
-  ones-from-reads.Learnt,
-  pick-reads.Asked,
-  pick-reads.Learnt,
-  offset-of-below t,
-  offset-of.Post,
-  up-reads.Asked,
-  up-reads.Learnt,
-) (offset-of-at t) offset-of.Post
+offset-of-sub-middle-2 : (t : ℕ) → offset-of-lts.Need-sub-middle-2 (offset-of-calls t) (offset-of-at t) offset-of.Post
 offset-of-sub-middle-2 t c = search needs
 
-offset-of-sub-bit : (t : ℕ) → offset-of-lts.Need-sub-bit (
-  at-leaf-reads.Asked,
-  at-leaf-reads.Learnt,
-  ones-reads.Asked,
-  ones-reads.Learnt,
-  ones-from-reads.Asked,
-  ones-from-reads.Learnt,
-  pick-reads.Asked,
-  pick-reads.Learnt,
-  offset-of-below t,
-  offset-of.Post,
-  up-reads.Asked,
-  up-reads.Learnt,
-) (offset-of-at t) offset-of.Post
+offset-of-sub-bit : (t : ℕ) → offset-of-lts.Need-sub-bit (offset-of-calls t) (offset-of-at t) offset-of.Post
 offset-of-sub-bit t c = search needs
 
-offset-of-sub-bit-2 : (t : ℕ) → offset-of-lts.Need-sub-bit-2 (
-  at-leaf-reads.Asked,
-  at-leaf-reads.Learnt,
-  ones-reads.Asked,
-  ones-reads.Learnt,
-  ones-from-reads.Asked,
-  ones-from-reads.Learnt,
-  pick-reads.Asked,
-  pick-reads.Learnt,
-  offset-of-below t,
-  offset-of.Post,
-  up-reads.Asked,
-  up-reads.Learnt,
-) (offset-of-at t) offset-of.Post
+offset-of-sub-bit-2 : (t : ℕ) → offset-of-lts.Need-sub-bit-2 (offset-of-calls t) (offset-of-at t) offset-of.Post
 offset-of-sub-bit-2 t c = search needs
 
-offset-of-shr-bit : (t : ℕ) → offset-of-lts.Need-shr-bit (
-  at-leaf-reads.Asked,
-  at-leaf-reads.Learnt,
-  ones-reads.Asked,
-  ones-reads.Learnt,
-  ones-from-reads.Asked,
-  ones-from-reads.Learnt,
-  pick-reads.Asked,
-  pick-reads.Learnt,
-  offset-of-below t,
-  offset-of.Post,
-  up-reads.Asked,
-  up-reads.Learnt,
-) (offset-of-at t) offset-of.Post
+offset-of-shr-bit : (t : ℕ) → offset-of-lts.Need-shr-bit (offset-of-calls t) (offset-of-at t) offset-of.Post
 offset-of-shr-bit t c = search needs
 
-offset-of-pick-requires : (t : ℕ) → offset-of-lts.Need-pick-requires (
-  at-leaf-reads.Asked,
-  at-leaf-reads.Learnt,
-  ones-reads.Asked,
-  ones-reads.Learnt,
-  ones-from-reads.Asked,
-  ones-from-reads.Learnt,
-  pick-reads.Asked,
-  pick-reads.Learnt,
-  offset-of-below t,
-  offset-of.Post,
-  up-reads.Asked,
-  up-reads.Learnt,
-) (offset-of-at t) offset-of.Post
+offset-of-pick-requires : (t : ℕ) → offset-of-lts.Need-pick-requires (offset-of-calls t) (offset-of-at t) offset-of.Post
 offset-of-pick-requires t c κs = search needs
 
-offset-of-pick-requires-2 : (t : ℕ) → offset-of-lts.Need-pick-requires-2 (
-  at-leaf-reads.Asked,
-  at-leaf-reads.Learnt,
-  ones-reads.Asked,
-  ones-reads.Learnt,
-  ones-from-reads.Asked,
-  ones-from-reads.Learnt,
-  pick-reads.Asked,
-  pick-reads.Learnt,
-  offset-of-below t,
-  offset-of.Post,
-  up-reads.Asked,
-  up-reads.Learnt,
-) (offset-of-at t) offset-of.Post
+offset-of-pick-requires-2 : (t : ℕ) → offset-of-lts.Need-pick-requires-2 (offset-of-calls t) (offset-of-at t) offset-of.Post
 offset-of-pick-requires-2 t c κs = search needs
 
-offset-of-add-offset-of : (t : ℕ) → offset-of-lts.Need-add-offset-of (
-  at-leaf-reads.Asked,
-  at-leaf-reads.Learnt,
-  ones-reads.Asked,
-  ones-reads.Learnt,
-  ones-from-reads.Asked,
-  ones-from-reads.Learnt,
-  pick-reads.Asked,
-  pick-reads.Learnt,
-  offset-of-below t,
-  offset-of.Post,
-  up-reads.Asked,
-  up-reads.Learnt,
-) (offset-of-at t) offset-of.Post
+offset-of-add-offset-of : (t : ℕ) → offset-of-lts.Need-add-offset-of (offset-of-calls t) (offset-of-at t) offset-of.Post
 offset-of-add-offset-of t c = search needs
 
 -- the half lies in the node
-offset-of-inside : (t : ℕ) (c : offset-of-lts.After-pick2 (
-  at-leaf-reads.Asked,
-  at-leaf-reads.Learnt,
-  ones-reads.Asked,
-  ones-reads.Learnt,
-  ones-from-reads.Asked,
-  ones-from-reads.Learnt,
-  pick-reads.Asked,
-  pick-reads.Learnt,
-  offset-of-below t,
-  offset-of.Post,
-  up-reads.Asked,
-  up-reads.Learnt,
-) (offset-of-at t) offset-of.Post)
+offset-of-inside : (t : ℕ) (c : offset-of-lts.After-pick2 (offset-of-calls t) (offset-of-at t) offset-of.Post)
     → (c .before .before .before .before .before .before .before .before .args .start ≤ c .before .pick .result)
     × (c .before .pick .result ≤ c .pick2 .result)
     × (c .pick2 .result ≤ c .before .before .before .before .before .before .before .before .args .end)
@@ -273,71 +108,19 @@ offset-of-inside t c =
     rw (c .before .pick .ensures, c .pick2 .ensures)
     (picked (eqb (g .d / 2 ^ (g .t .height - 1 - g .j) % 2) 1) (g .start) mid (g .end) (omega arith) (omega (arith, left-le bits (g .start) (g .end) l)))
 
-offset-of-offset-of-requires : (t : ℕ) → offset-of-lts.Need-offset-of-requires (
-  at-leaf-reads.Asked,
-  at-leaf-reads.Learnt,
-  ones-reads.Asked,
-  ones-reads.Learnt,
-  ones-from-reads.Asked,
-  ones-from-reads.Learnt,
-  pick-reads.Asked,
-  pick-reads.Learnt,
-  offset-of-below t,
-  offset-of.Post,
-  up-reads.Asked,
-  up-reads.Learnt,
-) (offset-of-at t) offset-of.Post
+offset-of-offset-of-requires : (t : ℕ) → offset-of-lts.Need-offset-of-requires (offset-of-calls t) (offset-of-at t) offset-of.Post
 offset-of-offset-of-requires t c κs =
     let s = c .before .before .before .before .before .before .before .before in
     let p = offset-of-inside t c in
     (omega arith, (s .pre .1 .0, (omega arith, p .1, omega arith)))
 
-offset-of-enum-known-below : (t : ℕ) → offset-of-lts.Need-enum-known-below (
-  at-leaf-reads.Asked,
-  at-leaf-reads.Learnt,
-  ones-reads.Asked,
-  ones-reads.Learnt,
-  ones-from-reads.Asked,
-  ones-from-reads.Learnt,
-  pick-reads.Asked,
-  pick-reads.Learnt,
-  offset-of-below t,
-  offset-of.Post,
-  up-reads.Asked,
-  up-reads.Learnt,
-) (offset-of-at t) offset-of.Post
+offset-of-enum-known-below : (t : ℕ) → offset-of-lts.Need-enum-known-below (offset-of-calls t) (offset-of-at t) offset-of.Post
 offset-of-enum-known-below t c = search needs
 
-offset-of-enum-told : (t : ℕ) → offset-of-lts.Need-enum-told (
-  at-leaf-reads.Asked,
-  at-leaf-reads.Learnt,
-  ones-reads.Asked,
-  ones-reads.Learnt,
-  ones-from-reads.Asked,
-  ones-from-reads.Learnt,
-  pick-reads.Asked,
-  pick-reads.Learnt,
-  offset-of-below t,
-  offset-of.Post,
-  up-reads.Asked,
-  up-reads.Learnt,
-) (offset-of-at t) offset-of.Post
+offset-of-enum-told : (t : ℕ) → offset-of-lts.Need-enum-told (offset-of-calls t) (offset-of-at t) offset-of.Post
 offset-of-enum-told t c = search needs
 
-offset-of-returns-2 : (t : ℕ) → offset-of-lts.Need-returns-2 (
-  at-leaf-reads.Asked,
-  at-leaf-reads.Learnt,
-  ones-reads.Asked,
-  ones-reads.Learnt,
-  ones-from-reads.Asked,
-  ones-from-reads.Learnt,
-  pick-reads.Asked,
-  pick-reads.Learnt,
-  offset-of-below t,
-  offset-of.Post,
-  up-reads.Asked,
-  up-reads.Learnt,
-) (offset-of-at t) offset-of.Post
+offset-of-returns-2 : (t : ℕ) → offset-of-lts.Need-returns-2 (offset-of-calls t) (offset-of-at t) offset-of.Post
 offset-of-returns-2 t c =
     let k = c .before .before .before .before .before .before in
     let s = k .before .before .before .before .before in
@@ -356,37 +139,11 @@ offset-of-returns-2 t c =
     )
 
 -- what the half has
-offset-of-found : (t : ℕ) (c : offset-of-lts.After-known-told (
-  at-leaf-reads.Asked,
-  at-leaf-reads.Learnt,
-  ones-reads.Asked,
-  ones-reads.Learnt,
-  ones-from-reads.Asked,
-  ones-from-reads.Learnt,
-  pick-reads.Asked,
-  pick-reads.Learnt,
-  offset-of-below t,
-  offset-of.Post,
-  up-reads.Asked,
-  up-reads.Learnt,
-) (offset-of-at t) offset-of.Post) → At (c .before .below .given .0 .0) ≡ c .before .before .before .offset-of .result
+offset-of-found : (t : ℕ) (c : offset-of-lts.After-known-told (offset-of-calls t) (offset-of-at t) offset-of.Post) → At (c .before .below .given .0 .0) ≡ c .before .before .before .offset-of .result
 offset-of-found t c = cc
 
 -- so the node has entries
-offset-of-filled : (t : ℕ) (c : offset-of-lts.After-known-told (
-  at-leaf-reads.Asked,
-  at-leaf-reads.Learnt,
-  ones-reads.Asked,
-  ones-reads.Learnt,
-  ones-from-reads.Asked,
-  ones-from-reads.Learnt,
-  pick-reads.Asked,
-  pick-reads.Learnt,
-  offset-of-below t,
-  offset-of.Post,
-  up-reads.Asked,
-  up-reads.Learnt,
-) (offset-of-at t) offset-of.Post)
+offset-of-filled : (t : ℕ) (c : offset-of-lts.After-known-told (offset-of-calls t) (offset-of-at t) offset-of.Post)
     → c .before .before .before .before .before .before .before .before .before .before .before .before .args .start
     < c .before .before .before .before .before .before .before .before .before .before .before .before .args .end
 offset-of-filled t c =
@@ -394,40 +151,14 @@ offset-of-filled t c =
     let p = offset-of-inside t (c .before .before .before .before) in
     omega arith
 
-offset-of-up-requires : (t : ℕ) → offset-of-lts.Need-up-requires (
-  at-leaf-reads.Asked,
-  at-leaf-reads.Learnt,
-  ones-reads.Asked,
-  ones-reads.Learnt,
-  ones-from-reads.Asked,
-  ones-from-reads.Learnt,
-  pick-reads.Asked,
-  pick-reads.Learnt,
-  offset-of-below t,
-  offset-of.Post,
-  up-reads.Asked,
-  up-reads.Learnt,
-) (offset-of-at t) offset-of.Post
+offset-of-up-requires : (t : ℕ) → offset-of-lts.Need-up-requires (offset-of-calls t) (offset-of-at t) offset-of.Post
 offset-of-up-requires t c κs =
     let k = c .before .before .before .before .before .before .before in
     let s = k .before .before .before .before .before in
     let b = rw (← (offset-of-found t c)) at (c .before .before .before .offset-of .ensures .1) in
     (s .pre .1 .0, (omega arith, offset-of-filled t c, s .pre .1 .1 .2, b, k .before .ones .ensures .0, k .before .ones .ensures .1))
 
-offset-of-returns-3 : (t : ℕ) → offset-of-lts.Need-returns-3 (
-  at-leaf-reads.Asked,
-  at-leaf-reads.Learnt,
-  ones-reads.Asked,
-  ones-reads.Learnt,
-  ones-from-reads.Asked,
-  ones-from-reads.Learnt,
-  pick-reads.Asked,
-  pick-reads.Learnt,
-  offset-of-below t,
-  offset-of.Post,
-  up-reads.Asked,
-  up-reads.Learnt,
-) (offset-of-at t) offset-of.Post
+offset-of-returns-3 : (t : ℕ) → offset-of-lts.Need-returns-3 (offset-of-calls t) (offset-of-at t) offset-of.Post
 offset-of-returns-3 t c =
     let k = c .before .before .before .before .before .before .before .before in
     let s = k .before .before .before .before .before in
@@ -447,20 +178,7 @@ offset-of-returns-3 t c =
     )
 
 pub +offset-of-spec : {M : Type 1} → statement M
-+offset-of-spec = close μ-offset-of λ t. offset-of-lts.spec (
-  at-leaf-reads.Asked,
-  at-leaf-reads.Learnt,
-  ones-reads.Asked,
-  ones-reads.Learnt,
-  ones-from-reads.Asked,
-  ones-from-reads.Learnt,
-  pick-reads.Asked,
-  pick-reads.Learnt,
-  offset-of-below t,
-  offset-of.Post,
-  up-reads.Asked,
-  up-reads.Learnt,
-)
++offset-of-spec = close μ-offset-of λ t. offset-of-lts.spec (offset-of-calls t)
     (offset-of-at t)
     offset-of.Post
     (offset-of-sub-at-leaf t)
