@@ -12,8 +12,8 @@ use Rattle.bit_rows.specs.Sequences.{all, upFrom}
 use Rattle.bit_rows.specs.Bits.{sum}
 use Rattle.bit_rows.proofs.Tests.{look}
 use Rattle.model.specs.Lists.{keep}
-use Rattle.wavelet.specs.declared.Next.the-variants.{Document, Nothing}
-use Rattle.wavelet.proofs.NextDocument.{keep-none}
+use Rattle.queries.specs.declared.common.Next.the-variants.{Document, Nothing}
+use Rattle.queries.proofs.Occurrences.{keep-none}
 use Rattle.queries.specs.Conjunction.{firstWith, nextCommon}
 
 module _ (counts : ℕ → List ℕ) where

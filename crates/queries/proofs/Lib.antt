@@ -1,5 +1,6 @@
 -- Laws of the questions.
 pub mod Stores
+pub mod Occurrences
 pub mod Results
 pub mod Missing
 pub mod Listed

@@ -17,7 +17,7 @@ use Rattle.model.specs.Rows.{row}
 use Rattle.model.specs.TopK.{node, countIn}
 use Rattle.model.specs.Queries.{Pair, pairOf, present, listing}
 use Rattle.model.proofs.Lists.{keep-append, keep-map, length-keep}
-use Rattle.wavelet.proofs.NextDocument.{keep-none, occurs-lt}
+use Rattle.queries.proofs.Occurrences.{keep-none, occurs-lt}
 use Rattle.model.proofs.Wavelet.Rank.{tally-leaf}
 use Rattle.wavelet.specs.declared.Levels.{Levels}
 use Rattle.wavelet.specs.declared.Span.{Span}

@@ -1,8 +1,8 @@
 -- The step from a node to its halves, term by term.
-use Prim.Native.Nat.{ℕ, suc, _+_, _-_, _*_, _/_, _%_, _≤_, _<_, min}
+use Prim.Native.Nat.{ℕ, suc, _+_, _-_, _*_, _/_, _≤_, _<_, min}
 use native.Mathlib.Numerals.{add-one}
 use native.Mathlib.Omega.{arith}
-use mathlib.Core.Path.{_≡_, refl, sym, ap, _∙_, subst}
+use mathlib.Core.Path.{_≡_, sym, ap, _∙_, subst}
 use mathlib.Core.Logic.{_⊎_, inl, inr}
 use mathlib.Core.List.{List}
 use lib.ListN.{length, getD}
@@ -13,7 +13,7 @@ use Rattle.bit_rows.proofs.Tests.{le-or-lt, and-both, and-cases, or-neither}
 use Rattle.wavelet.specs.declared.Span.{Span}
 use Rattle.wavelet.specs.declared.Halves.{Halves}
 use Rattle.queries.specs.Paths.{frameOf, rangeIn, putHalves, Whole, Right, Held}
-use Rattle.queries.proofs.Paths.{length-put, put-low, put-high, put-below, put-between, range-kept, whole-kept, held-kept, held-by}
+use Rattle.queries.proofs.Paths.{length-put, put-low, put-high, put-below, put-between, whole-kept, held-kept, held-by}
 
 -- one of the first k terms has no entry in a node
 pub record Dead (span : ℕ → ℕ → ℕ → Span) (j q k : ℕ) : Type 0 where

@@ -18,7 +18,7 @@ use Rattle.model.specs.Format.{Sizes}
 use Rattle.model.specs.Opening.{opening, contents}
 use Rattle.model.specs.Queries.{Place, place, none, placeBelow, Range, boundsOf, PairsResult, pairsInto, flat, quantile, conjunction, accessResult, rankResult, selectResult, rangeResult, quantileResult, listResult, conjunctionResult}
 use Rattle.model.proofs.Wavelet.Sorted.{quantile-ranked, tally-below-suc}
-use Rattle.wavelet.proofs.NextDocument.{occurs-lt}
+use Rattle.queries.proofs.Occurrences.{occurs-lt}
 use Rattle.archive.specs.declared.Layout.{Layout}
 use Rattle.archive.specs.declared.Opening.the-variants.{Refused}
 use Rattle.archive.specs.Layout.{Opened}

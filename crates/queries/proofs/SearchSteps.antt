@@ -1,6 +1,5 @@
 -- The turns of the search for the next common document, in an opened archive.
-use Prim.Native.Nat.{ℕ, _*_, _^_, _≤_, _<_}
-use native.Mathlib.Omega.{arith}
+use Prim.Native.Nat.{ℕ, _^_, _<_}
 use mathlib.Core.Path.{_≡_, sym, ap, _∙_, subst}
 use mathlib.Core.List.{List, map}
 use mathlib.Core.Bool.{true}
@@ -11,7 +10,7 @@ use Rattle.bit_rows.specs.Bits.{sum}
 use Rattle.model.specs.Opening.{contents}
 use Rattle.model.specs.Queries.{countsUnder}
 use Rattle.wavelet.specs.declared.Span.{Span}
-use Rattle.wavelet.specs.declared.Next.the-variants.{Document}
+use Rattle.queries.specs.declared.common.Next.the-variants.{Document}
 use Rattle.archive.specs.declared.Layout.{Layout}
 use Rattle.archive.specs.Layout.{Opened}
 use Rattle.queries.specs.declared.Terms.{Terms}
@@ -21,7 +20,7 @@ use Rattle.queries.specs.Paths.{frameOf, countAt, termSpan, Whole, Right
 use Rattle.queries.proofs.Paths.{held-at}
 use Rattle.queries.proofs.Scans.{common-some, scan-whole, scan-dead}
 use Rattle.queries.proofs.Searches.{Searching, searching-past, searching-found}
-use Rattle.queries.proofs.TermSpans.{counts, dead-matches, leaf-counts}
+use Rattle.queries.proofs.TermSpans.{dead-matches, leaf-counts}
 
 module _ (bytes : List ℕ) (l : Layout) (o : Opened bytes l) (q : Terms) (a : Asked (l .terms) q) (eight : length (q .numbers) ≡ 8) (from : ℕ) where
   abbrev span : ℕ → ℕ → ℕ → Span

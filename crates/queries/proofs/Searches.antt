@@ -1,7 +1,7 @@
 -- The search for the next common document: the order of its nodes, and what is passed when it stands at one.
 use Prim.Native.Nat.{ℕ, zero, suc, _+_, _-_, _*_, _/_, _%_, _^_, _≤_, _<_}
 use native.Mathlib.Numerals.{add-one}
-use native.Mathlib.Nat.{mul-add, add-mul, zero-mul, mul-one, sub-self, two-pow-succ, mul-le-mul-right, suc-mul, div-eq-of-lt-le, zero-add}
+use native.Mathlib.Nat.{mul-add, add-mul, zero-mul, mul-one, sub-self, two-pow-succ, mul-le-mul-right, suc-mul, div-eq-of-lt-le}
 use native.Mathlib.Omega.{arith}
 use mathlib.Core.Path.{_≡_, refl, sym, ap, _∙_, subst}
 use mathlib.Core.Logic.{_⊎_, inl, inr}
@@ -14,7 +14,7 @@ use borrow.Author.Tests.{eq-eqb, ne-eqb, eqb-true, eqb-false}
 use Rattle.bit_rows.specs.Bits.{sum}
 use Rattle.bit_rows.proofs.Tests.{look, le-or-lt}
 use Rattle.wavelet.specs.declared.Span.{Span}
-use Rattle.wavelet.specs.declared.Next.the-variants.{Document, Nothing}
+use Rattle.queries.specs.declared.common.Next.the-variants.{Document, Nothing}
 use Rattle.queries.specs.declared.common.Node.{Node}
 use Rattle.queries.specs.Conjunction.{nextCommon}
 use Rattle.queries.specs.Paths.{Held, Ready, at, afterOf, resumeOf}

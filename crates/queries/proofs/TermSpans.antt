@@ -1,7 +1,5 @@
 -- The places of terms in the nodes of an opened archive: their halves, their order, and what they count.
 use Prim.Native.Nat.{ℕ, zero, suc, _+_, _-_, _*_, _/_, _^_, _≤_, _<_}
-use native.Mathlib.Numerals.{add-one}
-use native.Mathlib.Nat.{zero-add}
 use native.Mathlib.Omega.{arith}
 use mathlib.Core.Path.{_≡_, refl, sym, ap, _∙_, subst}
 use mathlib.Core.List.{List, [], _∷_, map}
@@ -12,22 +10,20 @@ use lib.Dec.{ltb, eqb}
 use borrow.Author.Tests.{le-ltb, eqb-true, eq-eqb}
 use Rattle.bit_rows.specs.Sequences.{all, occurrences, below}
 use Rattle.bit_rows.proofs.Tally.{tally-le, length-upFrom, getD-map-below}
-use Rattle.bit_rows.proofs.Tests.{and-both}
-use Rattle.model.specs.Lists.{part, Within}
+use Rattle.model.specs.Lists.{part}
 use Rattle.model.specs.Opening.{contents}
 use Rattle.model.specs.Queries.{termStart, under, countsUnder}
 use Rattle.model.specs.TopK.{node, countIn}
 use Rattle.model.proofs.Lists.{within-at, getD-map}
 use Rattle.model.proofs.Wavelet.Rank.{tally-leaf}
 use Rattle.wavelet.specs.declared.Span.{Span}
-use Rattle.wavelet.specs.declared.Halves.{Halves}
 use Rattle.wavelet.specs.Levels.{entriesIn, levelOf}
 use Rattle.wavelet.specs.Spans.{Ordered, halvesOf}
 use Rattle.wavelet.proofs.Stored.{length-entriesIn, within-entriesIn}
 use Rattle.wavelet.proofs.Spans.{span-root, span-halves, span-count, span-ordered}
 use Rattle.archive.specs.declared.Layout.{Layout}
 use Rattle.archive.specs.Layout.{Opened}
-use Rattle.archive.proofs.Opened.{entries-are, entries-size, start-le}
+use Rattle.archive.proofs.Opened.{entries-are, start-le}
 use Rattle.archive.proofs.TermTable.{term-start-mono}
 use Rattle.queries.specs.declared.Terms.{Terms}
 use Rattle.queries.specs.Conjunction.{Asked}

@@ -4,7 +4,7 @@ use native.Mathlib.Omega.{arith}
 use native.Mathlib.Nat.{suc-mul, zero-add}
 use mathlib.Core.Path.{_≡_, refl, sym, ap, _∙_, subst}
 use mathlib.Core.List.{List, [], _∷_, _++_, map, append-nil}
-use mathlib.Core.Bool.{true, false}
+use mathlib.Core.Bool.{true}
 use lib.ListN.{length, take, drop, length-map, length-take, length-drop}
 use lib.Seq.{sets, length-take-le, length-sets}
 use lib.Dec.{ltb, eqb}
@@ -16,9 +16,9 @@ use Rattle.model.specs.Lists.{keep, part, overwrite, Within}
 use Rattle.model.specs.Format.{Library}
 use Rattle.model.proofs.Lists.{keep-append, length-keep, within-part}
 use Rattle.bit_rows.proofs.Tally.{tally-le-length, upFrom-append, length-upFrom, map-append}
-use Rattle.wavelet.proofs.NextDocument.{keep-none, occurs-lt}
+use Rattle.queries.proofs.Occurrences.{keep-none, occurs-lt}
 use Rattle.model.specs.Queries.{Pair, flat, termStart, under, countsUnder, conjunction}
-use Rattle.wavelet.specs.declared.Next.the-variants.{Document, Nothing}
+use Rattle.queries.specs.declared.common.Next.the-variants.{Document, Nothing}
 use Rattle.queries.specs.Written.{Written}
 use Rattle.model.specs.Opening.{contents}
 use Rattle.archive.specs.declared.Layout.{Layout}

@@ -7,8 +7,8 @@ use lib.Dec.{ltb}
 use Rattle.bit_rows.specs.Sequences.{all, upFrom}
 use Rattle.bit_rows.specs.Bits.{sum}
 use Rattle.model.specs.Lists.{keep, Within}
-use Rattle.wavelet.specs.declared.Next.{Next}
-use Rattle.wavelet.specs.declared.Next.the-variants.{Document, Nothing}
+use Rattle.queries.specs.declared.common.Next.{Next}
+use Rattle.queries.specs.declared.common.Next.the-variants.{Document, Nothing}
 use Rattle.queries.specs.declared.Terms.{Terms}
 
 -- one to eight terms, all of them among the W terms

@@ -10,8 +10,8 @@ use Rattle.model.specs.Opening.{contents}
 use Rattle.model.specs.Queries.{termStart}
 use Rattle.wavelet.specs.declared.Span.{Span}
 use Rattle.wavelet.specs.declared.Halves.{Halves}
-use Rattle.wavelet.specs.declared.Next.{Next}
-use Rattle.wavelet.specs.declared.Next.the-variants.{Document, Nothing}
+use Rattle.queries.specs.declared.common.Next.{Next}
+use Rattle.queries.specs.declared.common.Next.the-variants.{Document, Nothing}
 use Rattle.wavelet.specs.Levels.{entriesIn}
 use Rattle.wavelet.specs.Spans.{spanOf}
 use Rattle.archive.specs.declared.Layout.{Layout}

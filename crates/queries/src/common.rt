@@ -3,7 +3,6 @@ use crate::Terms;
 use crate::path::frame_of;
 use crate::path::open_node;
 use archive::Layout;
-use wavelet::Next;
 ghost use mathlib.Core.Path.{_≡_};
 ghost use mathlib.Core.List.{map};
 ghost use Prim.Native.Nat.{_+_, _-_, _*_, _^_, _≤_, _<_};
@@ -13,7 +12,13 @@ ghost use Rattle.model.specs.Opening.{contents};
 ghost use Rattle.model.specs.Queries.{countsUnder};
 ghost use Rattle.archive.specs.Layout.{Opened};
 ghost use Rattle.queries.specs.Conjunction.{Asked, commonCount, nextCommon};
-ghost use Rattle.queries.specs.Paths.{countAt, termSpan, Held, Ready, HeldAt, afterOf, resumeOf};
+ghost use Rattle.queries.specs.Paths.{countAt, termSpan, Ready, HeldAt, afterOf, resumeOf};
+
+// What the search for the next document answers: the document with the sum of its counts, or nothing.
+pub enum Next {
+    Document { document: usize, count: usize },
+    Nothing,
+}
 
 // A node of the tree: its level, and its number there.
 pub struct Node {
@@ -87,7 +92,7 @@ pub fn next_common(archive: &[u8], l: Layout, q: Terms, from: usize, path: &mut 
         let level = node.level;
         let number = node.number;
         let count = common_count(path, frame_of(level, number), size);
-        if count == 0 {
+        if count < 1 {
             node = after(level, number);
         } else if level == height {
             return Next::Document {

@@ -1,13 +1,13 @@
 // Conjunction: the documents with an entry under each of several terms, ascending, with the sum of their counts.
 use crate::Answer;
 use crate::Terms;
+use crate::common::Next;
 use crate::common::next_common;
 use crate::pairs::put_pair;
 use crate::path::put_root;
 use archive::Layout;
 use archive::Opening;
 use archive::open;
-use wavelet::Next;
 ghost use mathlib.Core.Path.{_≡_};
 ghost use Prim.Native.Nat.{_*_, _≤_};
 ghost use lib.ListN.{length, take};

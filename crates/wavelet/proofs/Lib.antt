@@ -4,5 +4,4 @@ pub mod Spans
 pub mod RankedNodes
 pub mod Descents
 pub mod Ranges
-pub mod NextDocument
 pub mod Places

@@ -12,7 +12,6 @@ pub use descent::rank;
 pub use node::half;
 pub use node::halve;
 pub use range::count_below;
-pub use range::next_document;
 pub use range::quantile;
 pub use split::halve_range;
 pub use split::rank_node;
@@ -58,10 +57,4 @@ pub struct Place {
 pub struct Counted {
     pub document: usize,
     pub count: usize,
-}
-
-// What a search for the next document answers: the document with its count in the range, or nothing.
-pub enum Next {
-    Document { document: usize, count: usize },
-    Nothing,
 }

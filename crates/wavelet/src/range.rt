@@ -1,7 +1,6 @@
-// Questions on the entries a up to but without b: how many are below a value, which has a rank, which comes next.
+// Questions on the entries a up to but without b: how many are below a value, and which has a rank.
 use crate::Counted;
 use crate::Levels;
-use crate::Next;
 use crate::Span;
 use crate::node::half;
 use crate::node::halve;
@@ -12,7 +11,7 @@ ghost use Rattle.bit_rows.specs.Sequences.{tally};
 ghost use Rattle.model.specs.Lists.{part};
 ghost use Rattle.wavelet.specs.Levels.{Stored, entriesIn};
 ghost use Rattle.wavelet.specs.Spans.{Ordered};
-ghost use Rattle.wavelet.specs.Ranges.{leafOf, quantileIn, nextOf};
+ghost use Rattle.wavelet.specs.Ranges.{leafOf, quantileIn};
 
 // How many entries of the range are below v: down by the bits of v, the low half at each 1.
 pub fn count_below(bytes: &[u8], t: Levels, a: usize, b: usize, v: usize) -> usize
@@ -90,22 +89,4 @@ pub fn quantile(bytes: &[u8], t: Levels, a: usize, b: usize, r: usize) -> Counte
     ensures { λ c. ⌜ c ≡ quantileIn (part a b (entriesIn (now (bytes .entry)) t)) r ⌝ }
 {
     leaf_of(bytes, t, 0, 0, 0, a, b, t.entries, r)
-}
-
-// The smallest document from v upward in the range: its rank there is the number of entries below v.
-pub fn next_document(bytes: &[u8], t: Levels, a: usize, b: usize, v: usize) -> Next
-    requires { ⌜ Stored (now bytes) t ⌝ }
-    requires { ⌜ (a ≤ b) × (b ≤ t .entries) ⌝ }
-    ensures { λ r. ⌜ r ≡ nextOf (t .height) v (part a b (entriesIn (now (bytes .entry)) t)) ⌝ }
-{
-    let below = count_below(bytes, t, a, b, v);
-    if below < b - a {
-        let found = quantile(bytes, t, a, b, below);
-        Next::Document {
-            document: found.document,
-            count: found.count,
-        }
-    } else {
-        Next::Nothing
-    }
 }

@@ -5,8 +5,6 @@ use Rattle.queries.specs.Paths.{countAt}
 use Rattle.queries.proofs.Counting.{Counting, counting-start, counting-next, counting-none, counting-end}
 use Rattle.queries.proofs.common.common_count.Statement.{statement}
 use Rattle.queries.proofs.common.common_count.Tie as tie
-use Rattle.queries.proofs.common.common_count.Reads as reads
-use Rattle.queries.proofs.common.common_count.Lts as lts
 
 abbrev Inv-loop : tie.InvT-loop
 Inv-loop path frame size sum₀ k₀ sum k = Counting (countAt path frame) size sum k
@@ -14,55 +12,43 @@ Inv-loop path frame size sum₀ k₀ sum k = Counting (countAt path frame) size 
 abbrev μ-loop : tie.MeasureT-loop
 μ-loop path frame size sum₀ k₀ sum k = size - k
 
--- src/common.rt:31:5
 loop-holds : tie.Need-loop-holds Inv-loop μ-loop
 loop-holds c = let g = c .args in counting-start (countAt (g .path .now) (g .frame)) (g .size)
 
--- src/common.rt:32:25
 add-pair : tie.Need-add-pair Inv-loop μ-loop
 add-pair c = search needs
 
--- src/common.rt:32:25
 add-pair-2 : tie.Need-add-pair-2 Inv-loop μ-loop
 add-pair-2 c = search needs
 
--- src/common.rt:32:20
 mul-pair : tie.Need-mul-pair Inv-loop μ-loop
 mul-pair c = search needs
 
--- src/common.rt:33:18
 mul-lo : tie.Need-mul-lo Inv-loop μ-loop
 mul-lo c = search needs
 
--- src/common.rt:33:18
 shared-slice-read-lo : tie.Need-shared-slice-read-lo Inv-loop μ-loop
 shared-slice-read-lo c = search needs
 
--- src/common.rt:33:18
 cast-lo : tie.Need-cast-lo Inv-loop μ-loop
 cast-lo c =
     let g = c .before .before .before .args in
     omega (arith, c .shared-slice-known .given (2 * (g .frame + 1 + c .before .before .loop .k)))
 
--- src/common.rt:34:23
 add-hi : tie.Need-add-hi Inv-loop μ-loop
 add-hi c = search needs
 
--- src/common.rt:34:18
 mul-hi : tie.Need-mul-hi Inv-loop μ-loop
 mul-hi c = search needs
 
--- src/common.rt:34:18
 shared-slice-read-hi : tie.Need-shared-slice-read-hi Inv-loop μ-loop
 shared-slice-read-hi c = search needs
 
--- src/common.rt:34:18
 cast-hi : tie.Need-cast-hi Inv-loop μ-loop
 cast-hi c =
     let g = c .before .before .before .before .args in
     omega (arith, c .shared-slice-known2 .given (2 * (g .frame + 1 + c .before .before .before .loop .k) + 1))
 
--- src/common.rt:36:13
 returns : tie.Need-returns Inv-loop μ-loop
 returns c =
     let s = c .before .before .before .before .before in
@@ -70,11 +56,9 @@ returns c =
     let k = c .before .before .before .before .loop in
     counting-none (countAt (g .path .now) (g .frame)) (g .size) (k .inv) (omega arith) (omega arith)
 
--- src/common.rt:38:16
 sub-sum : tie.Need-sub-sum Inv-loop μ-loop
 sub-sum c = search needs
 
--- src/common.rt:38:9
 add-sum : tie.Need-add-sum Inv-loop μ-loop
 add-sum c =
     let s = c .before .before .before .before .before in
@@ -84,15 +68,12 @@ add-sum c =
     let few = k .inv .few in
     omega arith
 
--- src/common.rt:39:9
 add-k : tie.Need-add-k Inv-loop μ-loop
 add-k c = search needs
 
--- src/common.rt:31:5
 loop-less : tie.Need-loop-less Inv-loop μ-loop
 loop-less c = search needs
 
--- src/common.rt:31:5
 loop-again : tie.Need-loop-again Inv-loop μ-loop
 loop-again c =
     let s = c .before .before .before .before .before in
@@ -101,7 +82,6 @@ loop-again c =
     let hi = c .before .shared-slice-known2 .given (2 * (g .frame + 1 + k .k) + 1) .fits in
     counting-next (countAt (g .path .now) (g .frame)) (g .size) (k .inv) (omega arith) (omega arith) (omega arith)
 
--- src/common.rt:25:1
 returns-2 : tie.Need-returns-2 Inv-loop μ-loop
 returns-2 c =
     let s = c .before .before in

@@ -1,10 +1,8 @@
 use borrow.Author.Needs.{needs}
-use Prim.Native.Nat.{ℕ, _^_, _≤_, _<_}
+use Prim.Native.Nat.{_<_}
 use native.Mathlib.Omega.{arith}
-use mathlib.Core.Path.{_≡_, sym, ap, _∙_, subst}
-use mathlib.Core.List.{List, map}
+use mathlib.Core.Path.{_≡_, sym, _∙_}
 use lib.ListN.{length, take}
-use Rattle.bit_rows.specs.Sequences.{below}
 use Rattle.model.specs.Opening.{contents}
 use Rattle.model.specs.Queries.{countsUnder}
 use Rattle.queries.specs.Paths.{termSpan}
@@ -15,13 +13,6 @@ use Rattle.queries.proofs.Searches.{Searching, left, searching-start, p
 use Rattle.queries.proofs.SearchSteps.{step-past, step-whole, step-found}
 use Rattle.queries.proofs.common.next_common.Statement.{statement}
 use Rattle.queries.proofs.common.next_common.Tie as tie
-use Rattle.queries.proofs.common.next_common.Reads as reads
-use Rattle.queries.proofs.common.next_common.Lts as lts
-use Rattle.queries.proofs.common.after.Reads as after-reads
-use Rattle.queries.proofs.common.common_count.Reads as common-count-reads
-use Rattle.queries.proofs.common.resume.Reads as resume-reads
-use Rattle.queries.proofs.path.frame_of.Reads as frame-of-reads
-use Rattle.queries.proofs.path.open_node.Reads as open-node-reads
 
 abbrev Inv-loop : tie.InvT-loop
 Inv-loop archive l q from path₀ size height node₀ path node =
@@ -31,11 +22,9 @@ abbrev μ-loop : tie.MeasureT-loop
 μ-loop archive l q from path₀ size height node₀ path node =
     left (termSpan archive l q) (q .size) (countsUnder (contents archive) (take (q .size) (q .numbers))) (l .levels .height) from node
 
--- src/common.rt:83:16
 cast-size : tie.Need-cast-size Inv-loop μ-loop
 cast-size c = search needs
 
--- src/common.rt:85:9
 resume-requires : tie.Need-resume-requires Inv-loop μ-loop
 resume-requires c κs =
     let s = c .before .before .before in
@@ -43,14 +32,12 @@ resume-requires c κs =
     let low = stored (g .archive .now) (g .l) (s .pre .0) .low in
     (s .pre .1 .0 .2, low)
 
--- src/common.rt:86:5
 loop-holds : tie.Need-loop-holds Inv-loop μ-loop
 loop-holds c =
     let s = c .before .before .before .before in
     let g = s .args in
     rw (c .resume .ensures) (searching-start (termSpan (g .archive .now) (g .l) (g .q)) (g .q .size) (countsUnder (contents (g .archive .now)) (take (g .q .size) (g .q .numbers))) (g .l .levels .height) (g .from) (g .path .now) (s .pre .1 .0 .1) (s .pre .1 .0 .2) (s .pre .1 .1))
 
--- src/common.rt:86:11
 shr-if1 : tie.Need-shr-if1 Inv-loop μ-loop
 shr-if1 c =
     let s = c .before .before .before .before .before .before in
@@ -60,7 +47,6 @@ shr-if1 c =
     let d = k .inv .stands .deep in
     omega arith
 
--- src/common.rt:89:40
 frame-of-requires : tie.Need-frame-of-requires Inv-loop μ-loop
 frame-of-requires c κs =
     let s = c .before .before .before .before .before .before .before .before in
@@ -70,7 +56,6 @@ frame-of-requires c κs =
     let d = k .inv .stands .deep in
     omega arith
 
--- src/common.rt:89:13
 common-count-requires : tie.Need-common-count-requires Inv-loop μ-loop
 common-count-requires c κs =
     let s = c .before .before .before .before .before .before .before .before .before in
@@ -80,7 +65,6 @@ common-count-requires c κs =
     let d = k .inv .stands .deep in
     (k .inv .room, omega (arith, c .frame-of .ensures), s .pre .1 .0 .0 .few)
 
--- src/common.rt:91:13
 after-requires : tie.Need-after-requires Inv-loop μ-loop
 after-requires c κs =
     let s = c .before .before .before .before .before .before .before .before .before .before .before in
@@ -91,7 +75,6 @@ after-requires c κs =
     let d = k .inv .stands .deep in
     (m, omega arith)
 
--- src/common.rt:86:5
 loop-less : tie.Need-loop-less Inv-loop μ-loop
 loop-less c =
     let s = c .before .before .before .before .before .before .before .before .before .before .before .before in
@@ -101,7 +84,6 @@ loop-less c =
     let m = bits-lt (k .node .level) (k .node .number) (c .before .before .before .before .before .if1 .taken) in
     rw (c .after .ensures) (past-less (termSpan (g .archive .now) (g .l) (g .q)) (g .q .size) (countsUnder (contents (g .archive .now)) (take (g .q .size) (g .q .numbers))) (g .l .levels .height) (g .from) (k .inv) m low)
 
--- src/common.rt:86:5
 loop-again : tie.Need-loop-again Inv-loop μ-loop
 loop-again c =
     let s = c .before .before .before .before .before .before .before .before .before .before .before .before in
@@ -109,9 +91,8 @@ loop-again c =
     let k = c .before .before .before .before .before .before .before .loop in
     let eight : length (g .q .numbers) ≡ 8 = search needs in
     let m = bits-lt (k .node .level) (k .node .number) (c .before .before .before .before .before .if1 .taken) in
-    rw (c .after .ensures) (step-past (g .archive .now) (g .l) (s .pre .0) (g .q) (s .pre .1 .0 .0) eight (g .from) (k .inv) m (c .before .before .before .frame-of .result) (c .before .before .before .frame-of .ensures) (c .before .before .common-count .result) (c .before .before .common-count .ensures) (c .before .if2 .taken))
+    rw (c .after .ensures) (step-past (g .archive .now) (g .l) (s .pre .0) (g .q) (s .pre .1 .0 .0) eight (g .from) (k .inv) m (c .before .before .before .frame-of .result) (c .before .before .before .frame-of .ensures) (c .before .before .common-count .result) (c .before .before .common-count .ensures) (omega (arith, c .before .if2 .taken)))
 
--- src/common.rt:93:13
 same-length : tie.Need-same-length Inv-loop μ-loop
 same-length c =
     let s = c .before .before .before .before .before .before .before .before .before .before .before .before in
@@ -119,7 +100,6 @@ same-length c =
     let k = c .before .before .before .before .before .before .before .loop in
     k .inv .room ∙ sym (s .pre .1 .0 .1)
 
--- src/common.rt:93:13
 returns : tie.Need-returns Inv-loop μ-loop
 returns c =
     let s = c .before .before .before .before .before .before .before .before .before .before .before .before in
@@ -127,9 +107,8 @@ returns c =
     let k = c .before .before .before .before .before .before .before .loop in
     let eight : length (g .q .numbers) ≡ 8 = search needs in
     let m = bits-lt (k .node .level) (k .node .number) (c .before .before .before .before .before .if1 .taken) in
-    step-found (g .archive .now) (g .l) (s .pre .0) (g .q) (s .pre .1 .0 .0) eight (g .from) (k .inv) m (c .before .before .before .frame-of .result) (c .before .before .before .frame-of .ensures) (c .before .before .common-count .result) (c .before .before .common-count .ensures) (c .before .if2 .left) (c .if3 .taken)
+    step-found (g .archive .now) (g .l) (s .pre .0) (g .q) (s .pre .1 .0 .0) eight (g .from) (k .inv) m (c .before .before .before .frame-of .result) (c .before .before .before .frame-of .ensures) (c .before .before .common-count .result) (c .before .before .common-count .ensures) (λ z. omega (arith, c .before .if2 .left)) (c .if3 .taken)
 
--- src/common.rt:98:13
 open-node-requires : tie.Need-open-node-requires Inv-loop μ-loop
 open-node-requires c κs =
     let s = c .before .before .before .before .before .before .before .before .before .before .before .before .before in
@@ -142,11 +121,10 @@ open-node-requires c κs =
       s .pre .0,
       (
         (s .pre .1 .0 .0, k .inv .room, d, omega arith, m),
-        (k .inv .held, step-whole (g .archive .now) (g .l) (s .pre .0) (g .q) (s .pre .1 .0 .0) eight (g .from) (k .inv) m (c .before .before .before .before .frame-of .result) (c .before .before .before .before .frame-of .ensures) (c .before .before .before .common-count .result) (c .before .before .before .common-count .ensures) (c .before .before .if2 .left)),
+        (k .inv .held, step-whole (g .archive .now) (g .l) (s .pre .0) (g .q) (s .pre .1 .0 .0) eight (g .from) (k .inv) m (c .before .before .before .before .frame-of .result) (c .before .before .before .before .frame-of .ensures) (c .before .before .before .common-count .result) (c .before .before .before .common-count .ensures) (λ z. omega (arith, c .before .before .if2 .left))),
       ),
     )
 
--- src/common.rt:100:24
 add-t20 : tie.Need-add-t20 Inv-loop μ-loop
 add-t20 c =
     let s = c .before .before .before .before .before .before .before .before .before .before .before .before .before .before .before .before in
@@ -156,7 +134,6 @@ add-t20 c =
     let d = k .inv .stands .deep in
     omega arith
 
--- src/common.rt:101:25
 mul-t21 : tie.Need-mul-t21 Inv-loop μ-loop
 mul-t21 c =
     let s = c .before .before .before .before .before .before .before .before .before .before .before .before .before .before .before .before in
@@ -166,7 +143,6 @@ mul-t21 c =
     let m = bits-lt (k .node .level) (k .node .number) (c .before .before .before .before .before .before .before .before .before .if1 .taken) in
     omega (arith, node-few (k .node .number) (k .node .level) (g .l .levels .height) m (k .inv .stands .deep) low)
 
--- src/common.rt:86:5
 loop-less-2 : tie.Need-loop-less-2 Inv-loop μ-loop
 loop-less-2 c =
     let s = c .before .before .before .before .before .before .before .before .before .before .before .before .before .before .before .before in
@@ -175,7 +151,6 @@ loop-less-2 c =
     let d : k .node .level < g .l .levels .height = let e = k .inv .stands .deep in omega (arith, c .before .before .before .before .if3 .left) in
     down-less (termSpan (g .archive .now) (g .l) (g .q)) (g .q .size) (countsUnder (contents (g .archive .now)) (take (g .q .size) (g .q .numbers))) (g .l .levels .height) (g .from) (k .inv) d
 
--- src/common.rt:86:5
 loop-again-2 : tie.Need-loop-again-2 Inv-loop μ-loop
 loop-again-2 c =
     let s = c .before .before .before .before .before .before .before .before .before .before .before .before .before .before .before .before in
@@ -185,7 +160,6 @@ loop-again-2 c =
     let m = bits-lt (k .node .level) (k .node .number) (c .before .before .before .before .before .before .before .before .before .if1 .taken) in
     searching-down (termSpan (g .archive .now) (g .l) (g .q)) (g .q .size) (countsUnder (contents (g .archive .now)) (take (g .q .size) (g .q .numbers))) (g .l .levels .height) (g .from) (k .inv) d m (c .before .before .open-node .last .1 .1 .1 .1 .1 .0) (c .before .before .open-node .kept .1 .1 .1 .1 .1 .0 ∙ k .inv .room) (c .before .before .open-node .ensures)
 
--- src/common.rt:77:1
 same-length-2 : tie.Need-same-length-2 Inv-loop μ-loop
 same-length-2 c =
     let s = c .before .before .before .before .before .before .before in
@@ -193,7 +167,6 @@ same-length-2 c =
     let k = c .before .before .loop in
     k .inv .room ∙ sym (s .pre .1 .0 .1)
 
--- src/common.rt:77:1
 returns-2 : tie.Need-returns-2 Inv-loop μ-loop
 returns-2 c =
     let s = c .before .before .before .before .before .before .before in

@@ -4,23 +4,16 @@ use mathlib.Core.Path.{_∙_}
 use Rattle.queries.proofs.Searches.{resume-first, resume-later}
 use Rattle.queries.proofs.common.resume.Statement.{statement}
 use Rattle.queries.proofs.common.resume.Tie as tie
-use Rattle.queries.proofs.common.resume.Reads as reads
-use Rattle.queries.proofs.common.resume.Lts as lts
-use Rattle.queries.proofs.common.after.Reads as after-reads
 
--- src/common.rt:72:23
 sub-after : tie.Need-sub-after
 sub-after c = search needs
 
--- src/common.rt:72:9
 after-requires : tie.Need-after-requires
 after-requires c κs = (omega (arith, c .before .pre .0), c .before .pre .1)
 
--- src/common.rt:62:1
 returns : tie.Need-returns
 returns c = let g = c .before .args in resume-first (g .height) (g .from) (c .if1 .taken)
 
--- src/common.rt:62:1
 returns-2 : tie.Need-returns-2
 returns-2 c =
     let g = c .before .before .args in

@@ -8,18 +8,13 @@ use lib.ListN.{length, take}
 use Rattle.model.specs.Format.{Library}
 use Rattle.model.specs.Opening.{contents}
 use Rattle.model.specs.Queries.{countsUnder}
-use Rattle.wavelet.specs.declared.Next.the-variants.{Document}
+use Rattle.queries.specs.declared.common.Next.the-variants.{Document}
 use Rattle.archive.proofs.Opened.{fitting, documents-are, documents-fit}
 use Rattle.queries.specs.Conjunction.{nextCommon}
 use Rattle.queries.specs.Paths.{termSpan, Ready, HeldAt}
 use Rattle.queries.proofs.Walks.{Walking, walking-start, walking-size, walking-few, walking-next, walking-end, turn}
 use Rattle.queries.proofs.conjunctions.conjunction_in.Statement.{statement}
 use Rattle.queries.proofs.conjunctions.conjunction_in.Tie as tie
-use Rattle.queries.proofs.conjunctions.conjunction_in.Reads as reads
-use Rattle.queries.proofs.conjunctions.conjunction_in.Lts as lts
-use Rattle.queries.proofs.common.next_common.Reads as next-common-reads
-use Rattle.queries.proofs.pairs.put_pair.Reads as put-pair-reads
-use Rattle.queries.proofs.path.put_root.Reads as put-root-reads
 
 abbrev Inv-loop : tie.InvT-loop
 Inv-loop archive l q answers₀ path₀ found₀ at₀ answers path found at =
@@ -28,17 +23,14 @@ Inv-loop archive l q answers₀ path₀ found₀ at₀ answers path found at =
 abbrev μ-loop : tie.MeasureT-loop
 μ-loop archive l q answers₀ path₀ found₀ at₀ answers path found at = l .documents - at
 
--- src/conjunctions.rt:29:29
 slice-aggregate-put-root : tie.Need-slice-aggregate-put-root Inv-loop μ-loop
 slice-aggregate-put-root c = search needs
 
--- src/conjunctions.rt:29:5
 put-root-requires : tie.Need-put-root-requires Inv-loop μ-loop
 put-root-requires c κs =
     let s = c .before .before .before in
     (s .pre .0, (s .pre .1 .0, refl))
 
--- src/conjunctions.rt:32:5
 loop-holds : tie.Need-loop-holds Inv-loop μ-loop
 loop-holds c =
     let s = c .before .before .before .before .before in
@@ -47,11 +39,9 @@ loop-holds c =
     let ts : List ℕ = take (g .q .size) (g .q .numbers) in
     (walking-start lib (g .l .levels .height) ts (g .answers .now), c .before .put-root .ensures, c .before .put-root .kept .1 .1 .1 .0)
 
--- src/conjunctions.rt:33:81
 slice-aggregate-next-common : tie.Need-slice-aggregate-next-common Inv-loop μ-loop
 slice-aggregate-next-common c = sym (c .before .loop .inv .2)
 
--- src/conjunctions.rt:33:50
 next-common-requires : tie.Need-next-common-requires Inv-loop μ-loop
 next-common-requires c κs =
     let s = c .before .before .before .before .before .before .before in
@@ -69,15 +59,12 @@ next-common-requires c κs =
       ),
     )
 
--- src/conjunctions.rt:33:30
 enum-known-document : tie.Need-enum-known-document Inv-loop μ-loop
 enum-known-document c = search needs
 
--- src/conjunctions.rt:34:13
 enum-told : tie.Need-enum-told Inv-loop μ-loop
 enum-told c = search needs
 
--- src/conjunctions.rt:34:13
 same-length : tie.Need-same-length Inv-loop μ-loop
 same-length c =
     let s = c .before .before .before .before .before .before .before .before .before .before .before in
@@ -87,7 +74,6 @@ same-length c =
     let ts : List ℕ = take (g .q .size) (g .q .numbers) in
     walking-size lib (g .l .levels .height) ts (g .answers .now) (k .inv .0)
 
--- src/conjunctions.rt:34:13
 returns : tie.Need-returns Inv-loop μ-loop
 returns c =
     let s = c .before .before .before .before .before .before .before .before .before .before .before in
@@ -98,7 +84,6 @@ returns c =
     let n = documents-are (g .archive .now) (g .l) (s .pre .0) in
     walking-end lib (g .l .levels .height) ts (g .answers .now) (k .inv .0) (cc) (omega (arith, documents-fit (g .archive .now) (g .l) (s .pre .0))) (omega (arith, s .pre .1 .1))
 
--- src/conjunctions.rt:36:9
 put-pair-requires : tie.Need-put-pair-requires Inv-loop μ-loop
 put-pair-requires c κs =
     let s = c .before .before .before .before .before .before .before .before .before .before .before .before .before in
@@ -116,7 +101,6 @@ put-pair-requires c κs =
     let fit = fitting (g .archive .now) (g .l) (s .pre .0) .documents in
     (omega (arith, s .pre .1 .1), omega arith, omega arith)
 
--- src/conjunctions.rt:37:9
 add-found : tie.Need-add-found Inv-loop μ-loop
 add-found c =
     let s = c .before .before .before .before .before .before .before .before .before .before .before .before .before .before .before .before in
@@ -132,7 +116,6 @@ add-found c =
     let fit = fitting (g .archive .now) (g .l) (s .pre .0) .documents in
     omega (arith, walking-few lib (g .l .levels .height) ts (g .answers .now) (k .inv .0))
 
--- src/conjunctions.rt:38:14
 add-at : tie.Need-add-at Inv-loop μ-loop
 add-at c =
     let s = c .before .before .before .before .before .before .before .before .before .before .before .before .before .before .before .before in
@@ -148,7 +131,6 @@ add-at c =
     let fit = fitting (g .archive .now) (g .l) (s .pre .0) .documents in
     omega arith
 
--- src/conjunctions.rt:32:5
 loop-less : tie.Need-loop-less Inv-loop μ-loop
 loop-less c =
     let s = c .before .before .before .before .before .before .before .before .before .before .before .before .before .before .before .before in
@@ -163,7 +145,6 @@ loop-less c =
     let u = turn (g .archive .now) (g .l) (s .pre .0) (g .q) (s .pre .1 .0) eight (k .at) x y e in
     omega arith
 
--- src/conjunctions.rt:32:5
 loop-again : tie.Need-loop-again Inv-loop μ-loop
 loop-again c =
     let s = c .before .before .before .before .before .before .before .before .before .before .before .before .before .before .before .before in

@@ -1,4 +1,3 @@
-use borrow.Author.Needs.{needs}
 use borrow.Author.Tests.{lt-ltb, le-ltb}
 use Rattle.queries.proofs.path.goes_on.Statement.{statement}
 use Rattle.queries.proofs.path.goes_on.Tie as tie

@@ -15,14 +15,6 @@ use Rattle.queries.proofs.Openings.{Opening, opening-start, opening-nex
 use Rattle.queries.proofs.NodeSteps.{bounds-order, known-is, known-self, known-few, low-bounds, high-bounds, span-ordered-is, span-halves-are}
 use Rattle.queries.proofs.path.open_node.Statement.{statement}
 use Rattle.queries.proofs.path.open_node.Tie as tie
-use Rattle.queries.proofs.path.open_node.Reads as reads
-use Rattle.queries.proofs.path.open_node.Lts as lts
-use Rattle.queries.proofs.pairs.put_pair.Reads as put-pair-reads
-use Rattle.queries.proofs.path.frame_of.Reads as frame-of-reads
-use Rattle.queries.proofs.path.goes_on.Reads as goes-on-reads
-use Rattle.queries.proofs.path.least.Reads as least-reads
-use Rattle.queries.proofs.path.part_term.Reads as part-term-reads
-use Rattle.wavelet.proofs.rank_node.Reads as rank-node-reads
 
 abbrev Inv-loop : tie.InvT-loop
 Inv-loop archive l q level number path₀ frame below start end node low₀ high₀ k₀ path low high k =
@@ -32,55 +24,42 @@ abbrev μ-loop : tie.MeasureT-loop
 μ-loop archive l q level number path₀ frame below start end node low₀ high₀ k₀ path low high k =
     q .size - k
 
--- src/path.rt:108:9
 frame-of-requires : tie.Need-frame-of-requires Inv-loop μ-loop
 frame-of-requires c κs = search needs
 
--- src/path.rt:109:23
 add-below : tie.Need-add-below Inv-loop μ-loop
 add-below c = search needs
 
--- src/path.rt:109:17
 mul-below : tie.Need-mul-below Inv-loop μ-loop
 mul-below c = search needs
 
--- src/path.rt:110:22
 mul-start : tie.Need-mul-start Inv-loop μ-loop
 mul-start c = search needs
 
--- src/path.rt:110:17
 mul-start-2 : tie.Need-mul-start-2 Inv-loop μ-loop
 mul-start-2 c = search needs
 
--- src/path.rt:110:17
 slice-read-start : tie.Need-slice-read-start Inv-loop μ-loop
 slice-read-start c = search needs
 
--- src/path.rt:110:17
 cast-start : tie.Need-cast-start Inv-loop μ-loop
 cast-start c = omega (arith, c .slice-known2 .given (2 * c .before .frame-of .result))
 
--- src/path.rt:111:20
 mul-end : tie.Need-mul-end Inv-loop μ-loop
 mul-end c = search needs
 
--- src/path.rt:111:20
 add-end : tie.Need-add-end Inv-loop μ-loop
 add-end c = search needs
 
--- src/path.rt:111:15
 mul-end-2 : tie.Need-mul-end-2 Inv-loop μ-loop
 mul-end-2 c = search needs
 
--- src/path.rt:111:15
 slice-read-end : tie.Need-slice-read-end Inv-loop μ-loop
 slice-read-end c = search needs
 
--- src/path.rt:111:15
 cast-end : tie.Need-cast-end Inv-loop μ-loop
 cast-end c = omega (arith, c .slice-known3 .given (2 * c .before .before .frame-of .result + 1))
 
--- src/path.rt:112:9
 rank-node-requires : tie.Need-rank-node-requires Inv-loop μ-loop
 rank-node-requires c κs =
     let s = c .before .before .before .before .before in
@@ -89,7 +68,6 @@ rank-node-requires c κs =
     let b = bounds-order (g .archive .now) (g .l) (s .pre .0) (g .q) (s .pre .1 .0 .0) eight (g .level) (g .number) (g .path .now) (c .before .before .frame-of .result) (c .before .before .frame-of .ensures) (s .pre .1 .1 .1) in
     (stored (g .archive .now) (g .l) (s .pre .0), (s .pre .1 .0 .2, b .0, b .1))
 
--- src/path.rt:113:5
 put-pair-requires : tie.Need-put-pair-requires Inv-loop μ-loop
 put-pair-requires c κs =
     let s = c .before .before .before .before .before .before .before in
@@ -101,11 +79,9 @@ put-pair-requires c κs =
     let room = s .pre .1 .0 .1 in
     (omega arith, omega arith, omega arith)
 
--- src/path.rt:114:20
 add-put-pair : tie.Need-add-put-pair Inv-loop μ-loop
 add-put-pair c = search needs
 
--- src/path.rt:114:5
 put-pair-requires-2 : tie.Need-put-pair-requires-2 Inv-loop μ-loop
 put-pair-requires-2 c κs =
     let s = c .before .before .before .before .before .before .before .before .before .before .before in
@@ -117,7 +93,6 @@ put-pair-requires-2 c κs =
     let room = s .pre .1 .0 .1 in
     (search needs, omega arith, omega arith)
 
--- src/path.rt:118:5
 loop-holds : tie.Need-loop-holds Inv-loop μ-loop
 loop-holds c =
     let s = c .before .before .before .before .before .before .before .before .before .before .before .before .before .before in
@@ -132,31 +107,24 @@ loop-holds c =
     subst (λ (x : List ℕ). Opening (termSpan (g .archive .now) (g .l) (g .q)) (g .q .size) (g .level) (g .number) x 1 1 0) (sym e)
     (opening-start (termSpan (g .archive .now) (g .l) (g .q)) (g .q .size) (g .level) (g .number) (s .pre .1 .0 .0 .few) (s .pre .1 .0 .3) (g .path .now) two (s .pre .1 .0 .1) (s .pre .1 .1 .0) (s .pre .1 .1 .1) (low-bounds (g .archive .now) (g .l) (s .pre .0) (g .q) (s .pre .1 .0 .0) eight (g .level) (g .number) node known (s .pre .1 .0 .2) (s .pre .1 .0 .4)) (high-bounds (g .archive .now) (g .l) (s .pre .0) (g .q) (s .pre .1 .0 .0) eight (g .level) (g .number) node known (s .pre .1 .0 .2) (s .pre .1 .0 .4)))
 
--- src/path.rt:118:22
 cast-goes-on : tie.Need-cast-goes-on Inv-loop μ-loop
 cast-goes-on c = search needs
 
--- src/path.rt:118:11
 goes-on-requires : tie.Need-goes-on-requires Inv-loop μ-loop
 goes-on-requires c κs = search needs
 
--- src/path.rt:119:20
 add-from : tie.Need-add-from Inv-loop μ-loop
 add-from c = search needs
 
--- src/path.rt:119:20
 add-from-2 : tie.Need-add-from-2 Inv-loop μ-loop
 add-from-2 c = search needs
 
--- src/path.rt:120:18
 add-to : tie.Need-add-to Inv-loop μ-loop
 add-to c = search needs
 
--- src/path.rt:120:18
 add-to-2 : tie.Need-add-to-2 Inv-loop μ-loop
 add-to-2 c = search needs
 
--- src/path.rt:121:13
 part-term-requires : tie.Need-part-term-requires Inv-loop μ-loop
 part-term-requires c κs =
     let s = c .before .before .before .before .before .before .before .before .before .before .before .before .before .before .before .before .before .before .before in
@@ -180,26 +148,21 @@ part-term-requires c κs =
       ),
     )
 
--- src/path.rt:122:9
 least-requires : tie.Need-least-requires Inv-loop μ-loop
 least-requires c κs = search needs
 
--- src/path.rt:123:9
 least-requires-2 : tie.Need-least-requires-2 Inv-loop μ-loop
 least-requires-2 c κs = search needs
 
--- src/path.rt:124:9
 add-k : tie.Need-add-k Inv-loop μ-loop
 add-k c = search needs
 
--- src/path.rt:118:5
 loop-less : tie.Need-loop-less Inv-loop μ-loop
 loop-less c =
     let k = c .before .before .before .before .before .before .before .before .before .loop in
     let g = c .before .before .before .before .before .before .before .before .before .before .before .before .before .before .before .before .before .before .before .before .before .before .before .before .args in
     omega (arith, goes-more (k .k) (g .q .size) (k .low) (k .high) (sym (c .before .before .before .before .before .before .before .goes-on .ensures) ∙ c .before .before .before .before .before .before .if1 .taken))
 
--- src/path.rt:118:5
 loop-again : tie.Need-loop-again Inv-loop μ-loop
 loop-again c =
     let s = c .before .before .before .before .before .before .before .before .before .before .before .before .before .before .before .before .before .before .before .before .before .before .before .before in
@@ -220,13 +183,11 @@ loop-again c =
     subst (λ (x : List ℕ). made x (c .before .least .result) (c .least2 .result)) (sym (p .ensures .0))
     (subst (λ (a : ℕ). made put a (c .least2 .result)) (sym (c .before .least .ensures)) (subst (made put (min (k .low) (p .result .low))) (sym (c .least2 .ensures)) t))
 
--- src/path.rt:95:1
 same-length : tie.Need-same-length Inv-loop μ-loop
 same-length c =
     let s = c .before .before .before .before .before .before .before .before .before .before .before .before .before .before .before .before .before .before in
     c .before .before .before .loop .inv .room ∙ sym (s .pre .1 .0 .1)
 
--- src/path.rt:95:1
 returns : tie.Need-returns Inv-loop μ-loop
 returns c =
     let s = c .before .before .before .before .before .before .before .before .before .before .before .before .before .before .before .before .before .before in

@@ -12,10 +12,6 @@ use Rattle.queries.proofs.Roots.{Rooting, rooting-start, rooting-next, 
 use Rattle.queries.proofs.TermSpans.{term-known, root-span}
 use Rattle.queries.proofs.path.put_root.Statement.{statement}
 use Rattle.queries.proofs.path.put_root.Tie as tie
-use Rattle.queries.proofs.path.put_root.Reads as reads
-use Rattle.queries.proofs.path.put_root.Lts as lts
-use Rattle.archive.proofs.term_start.Reads as term-start-reads
-use Rattle.queries.proofs.pairs.put_pair.Reads as put-pair-reads
 
 abbrev Inv-loop : tie.InvT-loop
 Inv-loop archive l path₀ q size k₀ path k = Rooting (termSpan archive l q) (q .size) (l .levels .entries) path k
@@ -23,7 +19,6 @@ Inv-loop archive l path₀ q size k₀ path k = Rooting (termSpan archive l q) (
 abbrev μ-loop : tie.MeasureT-loop
 μ-loop archive l path₀ q size k₀ path k = size - k
 
--- src/path.rt:42:5
 put-pair-requires : tie.Need-put-pair-requires Inv-loop μ-loop
 put-pair-requires c κs =
     let s = c .before .before .before in
@@ -31,30 +26,24 @@ put-pair-requires c κs =
     let room = s .pre .1 .1 in
     (omega arith, omega arith, omega (arith, fitting (g .archive .now) (g .l) (s .pre .0) .entries))
 
--- src/path.rt:43:16
 cast-size : tie.Need-cast-size Inv-loop μ-loop
 cast-size c = search needs
 
--- src/path.rt:45:5
 loop-holds : tie.Need-loop-holds Inv-loop μ-loop
 loop-holds c =
     let s = c .before .before .before .before .before .before in
     let g = s .args in
     rooting-start (termSpan (g .archive .now) (g .l) (g .t3)) (g .t3 .size) (g .l .levels .entries) (s .pre .1 .0 .few) (g .path .now) (c .before .before .put-pair .last .0) (s .pre .1 .1) (c .before .before .put-pair .ensures)
 
--- src/path.rt:46:20
 mul-term : tie.Need-mul-term Inv-loop μ-loop
 mul-term c = search needs
 
--- src/path.rt:46:20
 element-copy-out-term : tie.Need-element-copy-out-term Inv-loop μ-loop
 element-copy-out-term c = search needs
 
--- src/path.rt:46:20
 cast-term : tie.Need-cast-term Inv-loop μ-loop
 cast-term c = search needs
 
--- src/path.rt:47:13
 term-start-requires : tie.Need-term-start-requires Inv-loop μ-loop
 term-start-requires c κs =
     let s = c .before .before .before .before .before .before .before .before .before in
@@ -64,7 +53,6 @@ term-start-requires c κs =
     let m = term-known (g .archive .now) (g .l) (s .pre .0) (g .t3) (s .pre .1 .0) eight (k .k) (c .before .loop-test .taken) in
     (s .pre .0, omega arith)
 
--- src/path.rt:48:40
 add-term-start : tie.Need-add-term-start Inv-loop μ-loop
 add-term-start c =
     let s = c .before .before .before .before .before .before .before .before .before .before in
@@ -73,7 +61,6 @@ add-term-start c =
     let eight : length (g .t3 .numbers) ≡ 8 = search needs in
     omega (arith, term-known (g .archive .now) (g .l) (s .pre .0) (g .t3) (s .pre .1 .0) eight (k .k) (c .before .before .loop-test .taken), fitting (g .archive .now) (g .l) (s .pre .0) .terms)
 
--- src/path.rt:48:13
 term-start-requires-2 : tie.Need-term-start-requires-2 Inv-loop μ-loop
 term-start-requires-2 c κs =
     let s = c .before .before .before .before .before .before .before .before .before .before in
@@ -83,11 +70,9 @@ term-start-requires-2 c κs =
     let m = term-known (g .archive .now) (g .l) (s .pre .0) (g .t3) (s .pre .1 .0) eight (k .k) (c .before .before .loop-test .taken) in
     (s .pre .0, omega arith)
 
--- src/path.rt:49:24
 add-put-pair : tie.Need-add-put-pair Inv-loop μ-loop
 add-put-pair c = search needs
 
--- src/path.rt:49:9
 put-pair-requires-2 : tie.Need-put-pair-requires-2 Inv-loop μ-loop
 put-pair-requires-2 c κs =
     let s = c .before .before .before .before .before .before .before .before .before .before .before .before in
@@ -99,15 +84,12 @@ put-pair-requires-2 c κs =
     let n = fitting (g .archive .now) (g .l) (s .pre .0) .entries in
     (omega arith, omega (arith, c .before .before .term-start .ensures .1), omega (arith, c .before .term-start2 .ensures .1))
 
--- src/path.rt:50:9
 add-k : tie.Need-add-k Inv-loop μ-loop
 add-k c = search needs
 
--- src/path.rt:45:5
 loop-less : tie.Need-loop-less Inv-loop μ-loop
 loop-less c = search needs
 
--- src/path.rt:45:5
 loop-again : tie.Need-loop-again Inv-loop μ-loop
 loop-again c =
     let s = c .before .before .before .before .before .before .before .before .before .before .before .before .before .before .before in
@@ -122,7 +104,6 @@ loop-again c =
     (root-span (g .archive .now) (g .l) (s .pre .0) (g .t3) (s .pre .1 .0) eight (k .k) l ∙ (λ i. record { start = 0; lo = sym (a .ensures .0) i; hi = sym (b .ensures .0 ∙ ap (termStart (contents (g .archive .now))) (add-one t)) i; end = g .l .levels .entries }))
     (c .before .before .put-pair2 .ensures)
 
--- src/path.rt:37:1
 same-length : tie.Need-same-length Inv-loop μ-loop
 same-length c =
     let s = c .before .before .before .before .before .before .before .before in
@@ -130,7 +111,6 @@ same-length c =
     let k = c .before .loop in
     k .inv .room ∙ sym (s .pre .1 .1)
 
--- src/path.rt:37:1
 returns : tie.Need-returns Inv-loop μ-loop
 returns c =
     let s = c .before .before .before .before .before .before .before .before in

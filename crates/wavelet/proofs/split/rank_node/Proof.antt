@@ -2,7 +2,7 @@ use borrow.Author.Needs.{needs}
 use Prim.Native.Nat.{ℕ}
 use native.Mathlib.Omega.{arith}
 use mathlib.Core.List.{List}
-use Rattle.model.proofs.Wavelet.Counts.{ones-mono, ones-step}
+use Rattle.model.proofs.Wavelet.Counts.{ones-mono}
 use Rattle.wavelet.specs.Levels.{levelOf}
 use Rattle.wavelet.proofs.Spans.{left-is}
 use Rattle.wavelet.proofs.split.rank_node.Statement.{statement}
