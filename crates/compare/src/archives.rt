@@ -1,5 +1,6 @@
 // The writer, the check on opening and the reader, beside the plain bytes and the list.
 use crate::bytes::same_bytes;
+use crate::outcome::NUMBER;
 use crate::outcome::Outcome;
 use crate::outcome::Sizes;
 use crate::outcome::compare;
@@ -11,10 +12,10 @@ use crate::plain_archive::plain_archive;
 use crate::random::draw;
 use crate::random::room;
 use crate::slices::at;
+use crate::slices::both_same;
 use crate::slices::low;
 use crate::slices::minus;
 use crate::slices::put;
-use crate::slices::same;
 use archive::Opening;
 use codec::Reading;
 use codec::Written;
@@ -28,7 +29,7 @@ fn written(found: Written) -> Outcome {
 
 fn three(n: usize, documents: usize, terms: usize) -> Outcome {
     Outcome {
-        what: 0,
+        what: NUMBER,
         x: low(n),
         y: low(documents),
         z: low(terms),
@@ -37,7 +38,7 @@ fn three(n: usize, documents: usize, terms: usize) -> Outcome {
 
 fn sizes_of(l: Sizes) -> Outcome {
     Outcome {
-        what: 0,
+        what: NUMBER,
         x: l.n,
         y: l.documents,
         z: l.terms,
@@ -62,20 +63,27 @@ fn was_read(found: Reading) -> Outcome {
     }
 }
 
-// Writes with the first so many bytes of a target lent.
-fn write_into(
-    entries: &[u32],
-    lengths: &[u32],
-    documents: u32,
-    lent: u32,
-    target: &mut [u8],
-) -> Outcome {
+// Writes the first n entries and W lengths, with the first so many bytes of a target lent.
+fn write_into(entries: &[u32], lengths: &[u32], l: Sizes, lent: u32, target: &mut [u8]) -> Outcome {
     let from = 0;
+    let n = l.n as usize;
+    let terms = l.terms as usize;
     let to = lent as usize;
+    if entries.len() < n {
+        return refused(0);
+    }
+    if lengths.len() < terms {
+        return refused(0);
+    }
     if target.len() < to {
         return refused(0);
     }
-    written(codec::write(entries, lengths, documents, &mut target[from..to]))
+    written(codec::write(
+        &entries[from..n],
+        &lengths[from..terms],
+        l.documents,
+        &mut target[from..to],
+    ))
 }
 
 // Writes beside the plain bytes, with a given room. The target holds the given byte at first.
@@ -90,7 +98,7 @@ pub fn write(
 ) {
     let mut plain = [junk; 137400];
     let expected = plain_archive(entries, lengths, l, lent, &mut plain);
-    let found = write_into(entries, lengths, l.documents, lent, target);
+    let found = write_into(entries, lengths, l, lent, target);
     compare(
         question_of(0, lent, 0, 0),
         found,
@@ -147,13 +155,6 @@ fn copy(xs: &[u32], size: u32, ys: &mut [u32]) {
     }
 }
 
-fn lists_alike(e: &[u32], f: &[u32], s: &[u32], t: &[u32]) -> bool {
-    if same(e, f) {
-        return same(s, t);
-    }
-    false
-}
-
 // What the reader is to give with so much room, and to write into the two lists.
 fn plain_read(
     entries: &[u32],
@@ -181,23 +182,23 @@ pub fn read(
     entries: &[u32],
     lengths: &[u32],
     l: Sizes,
-    random: &mut u64,
+    seed: u32,
     made: &mut [u32; 64],
 ) {
-    let junk = draw(random);
+    let junk = draw(seed, 1);
     let mut e = [junk; 65544];
     let mut f = [junk; 65544];
     let mut s = [junk; 4104];
     let mut t = [junk; 4104];
-    let n = room(random, l.n);
-    let terms = room(random, l.terms);
+    let n = room(draw(seed, 2), l.n);
+    let terms = room(draw(seed, 3), l.terms);
     let found = read_into(archive, n, terms, &mut e, &mut s);
     let expected = plain_read(entries, lengths, l, n, terms, &mut f, &mut t);
     compare(
         question_of(2, n, terms, 0),
         found,
         expected,
-        lists_alike(&e, &f, &s, &t),
+        both_same(&e, &f, &s, &t),
         made,
     );
 }

@@ -25,15 +25,20 @@ fn first_four(answers: &[u32; 8]) {
     number(answers[3]);
 }
 
-// The lent slice holds nines.
-fn all_words(archive: &[u8]) {
+// The small library, whose archive is the first 74 of the bytes. The lent slice holds nines.
+fn all_words(bytes: &[u8]) {
+    let from = 0;
+    let to = 74;
+    if bytes.len() < to {
+        return;
+    }
     let mut answers = [9u32; 8];
     let t = Terms {
         numbers: [0, 1, 0, 0, 0, 0, 0, 0],
         size: 2,
     };
     text(b"all of words 0, 1: ");
-    match queries::conjunction(archive, t, &mut answers) {
+    match queries::conjunction(&bytes[from..to], t, &mut answers) {
         Answer::Number(x) => word(b"documents", x),
         Answer::Refused(x) => word(b"refused", x),
     }
@@ -60,41 +65,33 @@ fn one_document(archive: &[u8]) {
     text(b" | documents 1, done 0, slice 0 3 9 9\n");
 }
 
-fn opening(archive: &[u8]) {
-    match archive::open(archive) {
+// The first so many bytes are opened.
+fn opening(bytes: &[u8], size: usize) {
+    let from = 0;
+    if bytes.len() < size {
+        return;
+    }
+    match archive::open(&bytes[from..size]) {
         Opening::Accepted(l) => word(b"accepted", low(l.documents)),
         Opening::Refused(x) => word(b"refused", x),
     }
 }
 
 // The small library's archive with one byte more, and with one less.
-fn lengths(more: &[u8; 75], less: &[u8; 73]) {
+fn lengths(bytes: &[u8]) {
     text(b"74 bytes and one more; 73: ");
-    opening(more);
+    opening(bytes, 75);
     text(b"; ");
-    opening(less);
+    opening(bytes, 73);
     text(b" | refused 5; refused 5\n");
 }
 
-fn copied(small: &[u8; 74]) -> [u8; 73] {
-    let mut less = [0u8; 73];
-    let mut i = 0;
-    while i < 73 {
-        less[i] = small[i];
-        i += 1;
-    }
-    less
-}
-
 pub fn cases() {
-    let mut small = [0u8; 74];
-    let mut more = [0u8; 75];
-    let mut lone = [0u8; 48];
-    codec::write(&[3, 1, 0, 3, 2, 1, 3, 0], &[3, 0, 5], 4, &mut small);
-    codec::write(&[3, 1, 0, 3, 2, 1, 3, 0], &[3, 0, 5], 4, &mut more);
-    codec::write(&[0, 0, 0], &[3], 1, &mut lone);
-    let less = copied(&small);
-    all_words(&small);
-    one_document(&lone);
-    lengths(&more, &less);
+    let more =
+        b"\x01\0\0\0\x08\0\0\0\x04\0\0\0\x03\0\0\0\x28\0\0\0\x18\0\0\0\x40\0\0\0\x08\0\0\0\x48\0\0\0\x02\0\0\0\0\0\0\0\x03\0\0\0\x03\0\0\0\0\0\0\0\x03\0\0\0\x05\0\0\0\0\0\0\0\0\0\0\0\x59\xb5\0";
+    let lone =
+        b"\x01\0\0\0\x03\0\0\0\x01\0\0\0\x01\0\0\0\x28\0\0\0\x08\0\0\0\x30\0\0\0\0\0\0\0\x30\0\0\0\0\0\0\0\0\0\0\0\x03\0\0\0";
+    all_words(more);
+    one_document(lone);
+    lengths(more);
 }

@@ -1,41 +1,38 @@
 // Random libraries: their entries and term lengths are drawn, written, read back and asked.
 use crate::archives;
-use crate::lists::conjunctions;
-use crate::lists::lists;
-use crate::numbers::numbers;
+use crate::lists;
+use crate::numbers;
 use crate::outcome::Sizes;
 use crate::plain_archive::length_of;
 use crate::random::below;
 use crate::random::draw;
 use crate::random::once_in;
-use crate::searches::searches;
+use crate::searches;
 use crate::shapes::Shape;
 use crate::shapes::drawn;
 use crate::slices::count_at;
 use crate::slices::plus;
 use crate::slices::put;
 
-fn fill_entries(how: u32, n: u32, documents: u32, random: &mut u64, entries: &mut [u32]) {
-    let one = below(random, documents);
+fn fill_entries(how: u32, n: u32, documents: u32, seed: u32, entries: &mut [u32]) {
     let mut i = 0;
     while i < n {
-        put(entries, i, drawn(how, documents, i, one, random));
+        put(entries, i, drawn(how, documents, i, seed));
         i += 1;
     }
 }
 
 // Each of n entries falls under a term.
-fn fill_lengths(how: u32, n: u32, terms: u32, random: &mut u64, lengths: &mut [u32]) {
-    let one = below(random, terms);
+fn fill_lengths(how: u32, n: u32, terms: u32, seed: u32, lengths: &mut [u32]) {
     let mut i = 0;
     while i < n {
-        count_at(lengths, drawn(how, terms, i, one, random));
+        count_at(lengths, drawn(how, terms, i, seed));
         i += 1;
     }
 }
 
 // A library of a shape.
-pub fn library(s: Shape, random: &mut u64, made: &mut [u32; 64]) {
+pub fn library(s: Shape, seed: u32, made: &mut [u32; 64]) {
     let mut entries = [0u32; 65536];
     let mut lengths = [0u32; 4096];
     let l = Sizes {
@@ -43,37 +40,9 @@ pub fn library(s: Shape, random: &mut u64, made: &mut [u32; 64]) {
         documents: s.documents,
         terms: s.terms,
     };
-    fill_entries(s.entries, s.n, s.documents, random, &mut entries);
-    fill_lengths(s.lengths, s.n, s.terms, random, &mut lengths);
-    cut(&entries, &lengths, l, s.questions, random, made);
-}
-
-// The two lists in their own lengths.
-fn cut(
-    entries: &[u32],
-    lengths: &[u32],
-    l: Sizes,
-    questions: u32,
-    random: &mut u64,
-    made: &mut [u32; 64],
-) {
-    let from = 0;
-    let n = l.n as usize;
-    let terms = l.terms as usize;
-    if entries.len() < n {
-        return;
-    }
-    if lengths.len() < terms {
-        return;
-    }
-    write_and_ask(
-        &entries[from..n],
-        &lengths[from..terms],
-        l,
-        questions,
-        random,
-        made,
-    );
+    fill_entries(s.entries, s.n, s.documents, draw(seed, 1), &mut entries);
+    fill_lengths(s.lengths, s.n, s.terms, draw(seed, 2), &mut lengths);
+    write_and_ask(&entries, &lengths, l, s.questions, draw(seed, 3), made);
 }
 
 fn write_and_ask(
@@ -81,27 +50,97 @@ fn write_and_ask(
     lengths: &[u32],
     l: Sizes,
     questions: u32,
-    random: &mut u64,
+    seed: u32,
     made: &mut [u32; 64],
 ) {
-    let junk = (draw(random) % 256) as u8;
+    let junk = (draw(seed, 1) % 256) as u8;
     let mut target = [junk; 137400];
     let size = length_of(l);
-    if once_in(random, 8) {
+    if once_in(draw(seed, 2), 8) {
         archives::write_short(entries, lengths, l, made);
     }
     archives::write(
         entries,
         lengths,
         l,
-        plus(size, below(random, 6)),
+        plus(size, below(draw(seed, 3), 6)),
         junk,
         &mut target,
         made,
     );
-    ask_written(&target, size, entries, lengths, l, questions, random, made);
+    ask_written(
+        &target,
+        size,
+        entries,
+        lengths,
+        l,
+        questions,
+        draw(seed, 4),
+        made,
+    );
 }
 
+// The kind of question number i: of a number more often than of pairs.
+fn kind_of(i: u32) -> u32 {
+    let k = i % 30;
+    if k < 14 {
+        return 3 + k % 7;
+    }
+    if k < 18 {
+        return 10 + k % 2;
+    }
+    if k < 22 {
+        return 12;
+    }
+    13 + k % 4
+}
+
+fn ask_one(
+    kind: u32,
+    archive: &[u8],
+    entries: &[u32],
+    lengths: &[u32],
+    l: Sizes,
+    seed: u32,
+    made: &mut [u32; 64],
+) {
+    if kind < 10 {
+        numbers::ask(kind, archive, entries, lengths, l, seed, made);
+    } else if kind < 12 {
+        lists::list(kind, archive, entries, lengths, l, seed, made);
+    } else if kind == 12 {
+        lists::conjunction(archive, entries, lengths, l, seed, made);
+    } else {
+        searches::ask_drawn(kind, archive, entries, lengths, l, seed, made);
+    }
+}
+
+// So many questions, kind by kind.
+fn ask(
+    times: u32,
+    archive: &[u8],
+    entries: &[u32],
+    lengths: &[u32],
+    l: Sizes,
+    seed: u32,
+    made: &mut [u32; 64],
+) {
+    let mut i = 0;
+    while i < times {
+        ask_one(
+            kind_of(i),
+            archive,
+            entries,
+            lengths,
+            l,
+            draw(seed, i),
+            made,
+        );
+        i += 1;
+    }
+}
+
+// The check on opening, the reader and the questions, of the archive in the front of a target.
 fn ask_written(
     target: &[u8],
     size: u32,
@@ -109,7 +148,7 @@ fn ask_written(
     lengths: &[u32],
     l: Sizes,
     questions: u32,
-    random: &mut u64,
+    seed: u32,
     made: &mut [u32; 64],
 ) {
     let from = 0;
@@ -117,40 +156,8 @@ fn ask_written(
     if target.len() < to {
         return;
     }
-    ask(
-        &target[from..to],
-        entries,
-        lengths,
-        l,
-        questions,
-        random,
-        made,
-    );
-}
-
-// Every kind of question.
-fn ask(
-    archive: &[u8],
-    entries: &[u32],
-    lengths: &[u32],
-    l: Sizes,
-    questions: u32,
-    random: &mut u64,
-    made: &mut [u32; 64],
-) {
+    let archive = &target[from..to];
     archives::open(archive, l, made);
-    archives::read(archive, entries, lengths, l, random, made);
-    let m = questions / 2;
-    numbers(
-        plus(questions, questions),
-        archive,
-        entries,
-        lengths,
-        l,
-        random,
-        made,
-    );
-    lists(m, archive, entries, lengths, l, random, made);
-    conjunctions(m, archive, entries, lengths, l, random, made);
-    searches(questions, archive, entries, lengths, l, random, made);
+    archives::read(archive, entries, lengths, l, seed, made);
+    ask(questions, archive, entries, lengths, l, seed, made);
 }

@@ -32,52 +32,36 @@ fn list_into(archive: &[u8], q: Question, answers: &mut [u32]) -> Outcome {
 }
 
 // A range of entries or of terms, with a room for its documents.
-fn drawn(kind: u32, l: Sizes, random: &mut u64) -> Question {
+fn drawn(kind: u32, l: Sizes, seed: u32) -> Question {
     let most = if kind == 10 { l.n } else { minus(l.terms, 1) };
-    let e = two_ends(random, most);
+    let e = two_ends(draw(seed, 1), most);
     Question {
         kind,
         a: e.first,
         b: e.last,
         c: 0,
         d: 0,
-        answers: room(random, plus(l.documents, l.documents)),
+        answers: room(draw(seed, 2), plus(l.documents, l.documents)),
         work: 0,
     }
 }
 
-fn list(
+pub fn list(
     kind: u32,
     archive: &[u8],
     entries: &[u32],
     lengths: &[u32],
     l: Sizes,
-    random: &mut u64,
+    seed: u32,
     made: &mut [u32; 64],
 ) {
-    let junk = draw(random);
+    let junk = draw(seed, 1);
     let mut answers = [junk; 8200];
     let mut plain = [junk; 8200];
-    let q = drawn(kind, l, random);
+    let q = drawn(kind, l, draw(seed, 2));
     let found = list_into(archive, q, &mut answers);
     let expected = plain_pairs::list(entries, lengths, l, q, &mut plain);
     compare(q, found, expected, same(&answers, &plain), made);
-}
-
-pub fn lists(
-    times: u32,
-    archive: &[u8],
-    entries: &[u32],
-    lengths: &[u32],
-    l: Sizes,
-    random: &mut u64,
-    made: &mut [u32; 64],
-) {
-    let mut i = 0;
-    while i < times {
-        list(10 + i % 2, archive, entries, lengths, l, random, made);
-        i += 1;
-    }
 }
 
 fn conjunction_into(archive: &[u8], t: Terms, lent: u32, answers: &mut [u32]) -> Outcome {
@@ -89,48 +73,62 @@ fn conjunction_into(archive: &[u8], t: Terms, lent: u32, answers: &mut [u32]) ->
     answered(queries::conjunction(archive, t, &mut answers[from..to]))
 }
 
-// One to eight terms, or none, or too many; from all terms, or from the first few.
-fn drawn_terms(l: Sizes, random: &mut u64) -> Terms {
-    let few = plus(below(random, 8), 1);
-    let most = if once_in(random, 2) {
+// A term, now and then W or more.
+fn drawn_term(most: u32, seed: u32) -> u32 {
+    if once_in(draw(seed, 1), 20) {
+        return near(seed, minus(most, 1));
+    }
+    below(seed, most)
+}
+
+// From all terms, or from the first few.
+fn drawn_numbers(most: u32, seed: u32) -> [u32; 8] {
+    [
+        drawn_term(most, draw(seed, 1)),
+        drawn_term(most, draw(seed, 2)),
+        drawn_term(most, draw(seed, 3)),
+        drawn_term(most, draw(seed, 4)),
+        drawn_term(most, draw(seed, 5)),
+        drawn_term(most, draw(seed, 6)),
+        drawn_term(most, draw(seed, 7)),
+        drawn_term(most, draw(seed, 8)),
+    ]
+}
+
+// One to eight terms; now and then none, or too many.
+fn drawn_size(few: u32, seed: u32) -> u32 {
+    if once_in(draw(seed, 1), 8) {
+        return near(seed, 9);
+    }
+    few
+}
+
+fn drawn_terms(l: Sizes, seed: u32) -> Terms {
+    let few = plus(below(seed, 8), 1);
+    let most = if once_in(draw(seed, 1), 2) {
         l.terms
     } else {
         least(l.terms, few)
     };
-    let m = minus(most, 1);
-    let size = if once_in(random, 8) {
-        near(random, 9)
-    } else {
-        few
-    };
     Terms {
-        numbers: [
-            near(random, m),
-            below(random, most),
-            below(random, most),
-            below(random, most),
-            below(random, most),
-            below(random, most),
-            below(random, most),
-            near(random, m),
-        ],
-        size,
+        numbers: drawn_numbers(most, draw(seed, 2)),
+        size: drawn_size(few, draw(seed, 3)),
     }
 }
 
-fn conjunction(
+pub fn conjunction(
     archive: &[u8],
     entries: &[u32],
     lengths: &[u32],
     l: Sizes,
-    random: &mut u64,
+    seed: u32,
     made: &mut [u32; 64],
 ) {
-    let junk = draw(random);
+    let junk = draw(seed, 1);
     let mut answers = [junk; 8200];
     let mut plain = [junk; 8200];
-    let t = drawn_terms(l, random);
-    let lent = room(random, plus(l.documents, l.documents));
+    let t = drawn_terms(l, draw(seed, 2));
+    let lent = room(draw(seed, 3), plus(l.documents, l.documents));
     let found = conjunction_into(archive, t, lent, &mut answers);
     let expected = plain_pairs::conjunction(entries, lengths, l, t, lent, &mut plain);
     compare(
@@ -153,21 +151,5 @@ fn named(t: Terms, lent: u32) -> Question {
         d: t.size,
         answers: lent,
         work: 0,
-    }
-}
-
-pub fn conjunctions(
-    times: u32,
-    archive: &[u8],
-    entries: &[u32],
-    lengths: &[u32],
-    l: Sizes,
-    random: &mut u64,
-    made: &mut [u32; 64],
-) {
-    let mut i = 0;
-    while i < times {
-        conjunction(archive, entries, lengths, l, random, made);
-        i += 1;
     }
 }

@@ -1,5 +1,6 @@
 // Questions for a number: access, rank, select, quantile, the range of terms, the count per mille.
 use crate::outcome::NOTHING;
+use crate::outcome::NUMBER;
 use crate::outcome::Outcome;
 use crate::outcome::Question;
 use crate::outcome::Sizes;
@@ -37,7 +38,7 @@ fn placed(found: Placed) -> Outcome {
 
 fn ranged(found: Range) -> Outcome {
     match found {
-        Range::Entries { from, to } => outcome_of(0, from, to),
+        Range::Entries { from, to } => outcome_of(NUMBER, from, to),
         Range::Refused(x) => refused(x),
     }
 }
@@ -56,20 +57,25 @@ fn asked(archive: &[u8], q: Question) -> Outcome {
 }
 
 // A document: most often one that has entries.
-fn document(entries: &[u32], l: Sizes, random: &mut u64) -> u32 {
-    if below(random, 3) == 0 {
-        return near(random, minus(l.documents, 1));
+fn document(entries: &[u32], l: Sizes, seed: u32) -> u32 {
+    if below(draw(seed, 1), 3) == 0 {
+        return near(draw(seed, 2), minus(l.documents, 1));
     }
-    at(entries, below(random, l.n))
+    at(entries, below(draw(seed, 3), l.n))
 }
 
 // A range and a rank: near the given size, or near the range's own where 0 is given.
-fn ranked(kind: u32, m: u32, size: u32, random: &mut u64) -> Question {
-    let e = two_ends(random, m);
+fn ranked(kind: u32, m: u32, size: u32, seed: u32) -> Question {
+    let e = two_ends(draw(seed, 1), m);
     if size == 0 {
-        return question_of(kind, e.first, e.last, near(random, minus(e.last, e.first)));
+        return question_of(
+            kind,
+            e.first,
+            e.last,
+            near(draw(seed, 2), minus(e.last, e.first)),
+        );
     }
-    question_of(kind, e.first, e.last, near(random, size))
+    question_of(kind, e.first, e.last, near(draw(seed, 3), size))
 }
 
 // About half of each one's part, where n are shared by m.
@@ -80,44 +86,54 @@ fn half_share(n: u32, m: u32) -> u32 {
     plus(n / m / 2, 1)
 }
 
-fn rate(random: &mut u64) -> Question {
-    let size = draw(random);
-    if below(random, 2) == 0 {
-        return question_of(9, below(random, size), size, 0);
+fn rate(seed: u32) -> Question {
+    let size = draw(seed, 1);
+    if below(draw(seed, 2), 2) == 0 {
+        return question_of(9, below(draw(seed, 3), size), size, 0);
     }
-    let e = two_ends(random, 300);
+    let e = two_ends(draw(seed, 4), 300);
     question_of(9, e.first, e.last, 0)
 }
 
-fn drawn(kind: u32, entries: &[u32], l: Sizes, random: &mut u64) -> Question {
+fn drawn(kind: u32, entries: &[u32], l: Sizes, seed: u32) -> Question {
     match kind {
-        3 => question_of(3, near(random, minus(l.n, 1)), 0, 0),
-        4 => question_of(4, document(entries, l, random), near(random, l.n), 0),
+        3 => question_of(3, near(draw(seed, 1), minus(l.n, 1)), 0, 0),
+        4 => question_of(
+            4,
+            document(entries, l, draw(seed, 2)),
+            near(draw(seed, 3), l.n),
+            0,
+        ),
         5 => {
-            let d = document(entries, l, random);
-            question_of(5, d, near(random, half_share(l.n, l.documents)), 0)
+            let d = document(entries, l, draw(seed, 4));
+            question_of(5, d, near(draw(seed, 5), half_share(l.n, l.documents)), 0)
         }
-        6 => ranked(6, l.n, 0, random),
-        7 => ranked(7, minus(l.terms, 1), half_share(l.n, l.terms), random),
+        6 => ranked(6, l.n, 0, draw(seed, 6)),
+        7 => ranked(
+            7,
+            minus(l.terms, 1),
+            half_share(l.n, l.terms),
+            draw(seed, 7),
+        ),
         8 => {
-            let e = two_ends(random, minus(l.terms, 1));
+            let e = two_ends(draw(seed, 8), minus(l.terms, 1));
             question_of(8, e.first, e.last, 0)
         }
-        _ => rate(random),
+        _ => rate(draw(seed, 9)),
     }
 }
 
 // One question of a kind, through the archive and over the list.
-fn ask(
+pub fn ask(
     kind: u32,
     archive: &[u8],
     entries: &[u32],
     lengths: &[u32],
     l: Sizes,
-    random: &mut u64,
+    seed: u32,
     made: &mut [u32; 64],
 ) {
-    let q = drawn(kind, entries, l, random);
+    let q = drawn(kind, entries, l, draw(seed, 1));
     compare(
         q,
         asked(archive, q),
@@ -125,21 +141,4 @@ fn ask(
         true,
         made,
     );
-}
-
-// So many questions of each kind, kind by kind.
-pub fn numbers(
-    times: u32,
-    archive: &[u8],
-    entries: &[u32],
-    lengths: &[u32],
-    l: Sizes,
-    random: &mut u64,
-    made: &mut [u32; 64],
-) {
-    let mut i = 0;
-    while i < times {
-        ask(3 + i % 7, archive, entries, lengths, l, random, made);
-        i += 1;
-    }
 }

@@ -1,5 +1,6 @@
 // Questions for a number, by a plain count over the list.
 use crate::outcome::NOTHING;
+use crate::outcome::NUMBER;
 use crate::outcome::Outcome;
 use crate::outcome::Question;
 use crate::outcome::REFUSED;
@@ -85,7 +86,7 @@ pub fn range_of_terms(lengths: &[u32], l: Sizes, f: u32, g: u32) -> Outcome {
     if l.terms <= g {
         return refused(11);
     }
-    outcome_of(0, total(lengths, f), total(lengths, plus(g, 1)))
+    outcome_of(NUMBER, total(lengths, f), total(lengths, plus(g, 1)))
 }
 
 pub fn range_of_entries(l: Sizes, a: u32, b: u32) -> Outcome {
@@ -95,7 +96,7 @@ pub fn range_of_entries(l: Sizes, a: u32, b: u32) -> Outcome {
     if l.n < b {
         return refused(11);
     }
-    outcome_of(0, a, b)
+    outcome_of(NUMBER, a, b)
 }
 
 // How often each document occurs among the entries a up to but without b.

@@ -14,10 +14,9 @@ use crate::random::draw;
 use crate::random::near;
 use crate::random::room;
 use crate::random::two_ends;
+use crate::slices::both_same;
 use crate::slices::least;
 use crate::slices::minus;
-use crate::slices::plus;
-use crate::slices::same;
 use crate::slices::up;
 use top_k::Probed;
 use top_k::TopK;
@@ -62,35 +61,28 @@ fn search_into(archive: &[u8], q: Question, answers: &mut [u32], work: &mut [u32
 }
 
 // No documents, a few, all of them, or as many as 32 bits have.
-fn drawn_k(l: Sizes, random: &mut u64) -> u32 {
-    match below(random, 6) {
+fn drawn_k(l: Sizes, seed: u32) -> u32 {
+    match below(draw(seed, 1), 6) {
         0 => 4294967295,
-        1 => near(random, l.documents),
-        _ => below(random, 9),
+        1 => near(draw(seed, 2), l.documents),
+        _ => below(draw(seed, 3), 9),
     }
 }
 
-fn drawn(kind: u32, l: Sizes, random: &mut u64) -> Question {
+fn drawn(kind: u32, l: Sizes, seed: u32) -> Question {
     let over_entries = kind % 2 == 1;
     let most = if over_entries { l.n } else { minus(l.terms, 1) };
-    let e = two_ends(random, most);
-    let k = drawn_k(l, random);
+    let e = two_ends(draw(seed, 1), most);
+    let k = drawn_k(l, draw(seed, 2));
     Question {
         kind,
         a: e.first,
         b: e.last,
         c: k,
         d: 4294967295,
-        answers: room(random, up(least(k, l.documents), 1)),
-        work: room(random, up(l.documents, 2)),
+        answers: room(draw(seed, 3), up(least(k, l.documents), 1)),
+        work: room(draw(seed, 4), up(l.documents, 2)),
     }
-}
-
-fn slices_alike(e: &[u32], f: &[u32], s: &[u32], t: &[u32]) -> bool {
-    if same(e, f) {
-        return same(s, t);
-    }
-    false
 }
 
 fn ask(
@@ -112,7 +104,7 @@ fn ask(
         q,
         found,
         expected,
-        slices_alike(&answers, &plain, &work, &plain_work),
+        both_same(&answers, &plain, &work, &plain_work),
         made,
     );
     expected
@@ -138,45 +130,29 @@ fn ask_again(
     entries: &[u32],
     lengths: &[u32],
     l: Sizes,
-    random: &mut u64,
+    seed: u32,
     made: &mut [u32; 64],
 ) {
     let exact = with_allowance(q, openings);
     let less = with_allowance(q, minus(openings, 1));
-    let fewer = with_allowance(q, below(random, openings));
-    ask(exact, archive, entries, lengths, l, draw(random), made);
-    ask(less, archive, entries, lengths, l, draw(random), made);
-    ask(fewer, archive, entries, lengths, l, draw(random), made);
+    let fewer = with_allowance(q, below(draw(seed, 4), openings));
+    ask(exact, archive, entries, lengths, l, draw(seed, 1), made);
+    ask(less, archive, entries, lengths, l, draw(seed, 2), made);
+    ask(fewer, archive, entries, lengths, l, draw(seed, 3), made);
 }
 
-fn ask_drawn(
+pub fn ask_drawn(
     kind: u32,
     archive: &[u8],
     entries: &[u32],
     lengths: &[u32],
     l: Sizes,
-    random: &mut u64,
+    seed: u32,
     made: &mut [u32; 64],
 ) {
-    let q = drawn(kind, l, random);
-    let o = ask(q, archive, entries, lengths, l, draw(random), made);
+    let q = drawn(kind, l, draw(seed, 2));
+    let o = ask(q, archive, entries, lengths, l, draw(seed, 1), made);
     if o.what == DONE {
-        ask_again(q, o.y, archive, entries, lengths, l, random, made);
-    }
-}
-
-pub fn searches(
-    times: u32,
-    archive: &[u8],
-    entries: &[u32],
-    lengths: &[u32],
-    l: Sizes,
-    random: &mut u64,
-    made: &mut [u32; 64],
-) {
-    let mut i = 0;
-    while i < times {
-        ask_drawn(13 + i % 4, archive, entries, lengths, l, random, made);
-        i += 1;
+        ask_again(q, o.y, archive, entries, lengths, l, draw(seed, 3), made);
     }
 }

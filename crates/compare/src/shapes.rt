@@ -1,5 +1,6 @@
 // How large a random library is, and how its entries and terms are drawn.
 use crate::random::below;
+use crate::random::draw;
 use crate::slices::plus;
 use crate::slices::up;
 
@@ -13,35 +14,35 @@ pub struct Shape {
     pub questions: u32,
 }
 
-// One of m numbers: evenly, low ones more often, always the same one, or in turn.
-pub fn drawn(how: u32, m: u32, turn: u32, one: u32, random: &mut u64) -> u32 {
+// Number i of m numbers: evenly drawn, low ones more often, always the same one, or in turn.
+pub fn drawn(how: u32, m: u32, i: u32, seed: u32) -> u32 {
+    let any = draw(seed, i);
     if how == 0 {
-        return below(random, m);
+        return below(any, m);
     }
     if how == 1 {
-        let most = below(random, m);
-        return below(random, most);
+        return below(any, below(draw(any, 1), m));
     }
     if how == 2 {
-        return one;
+        return below(seed, m);
     }
     if m == 0 {
         return 0;
     }
-    turn % m
+    i % m
 }
 
 // Few entries now and then.
-fn size(random: &mut u64) -> u32 {
-    match below(random, 8) {
-        0 => below(random, 4),
-        1 => below(random, 20),
-        _ => below(random, 201),
+fn size(seed: u32) -> u32 {
+    match below(draw(seed, 1), 8) {
+        0 => below(draw(seed, 2), 4),
+        1 => below(draw(seed, 3), 20),
+        _ => below(draw(seed, 4), 201),
     }
 }
 
-fn documents(random: &mut u64) -> u32 {
-    match below(random, 16) {
+fn documents(seed: u32) -> u32 {
+    match below(draw(seed, 1), 16) {
         0 => 1,
         1 => 2,
         2 => 3,
@@ -49,47 +50,64 @@ fn documents(random: &mut u64) -> u32 {
         4 => 5,
         5 => 4095,
         6 => 4096,
-        7 => up(1, below(random, 13)),
-        8 => plus(below(random, 400), 1),
-        _ => plus(below(random, 40), 1),
+        7 => up(1, below(draw(seed, 2), 13)),
+        8 => plus(below(draw(seed, 3), 400), 1),
+        _ => plus(below(draw(seed, 4), 40), 1),
     }
 }
 
-fn terms(random: &mut u64) -> u32 {
-    match below(random, 16) {
+fn terms(seed: u32) -> u32 {
+    match below(draw(seed, 1), 16) {
         0 => 1,
         1 => 2,
         2 => 4096,
-        3 => plus(below(random, 300), 1),
-        _ => plus(below(random, 12), 1),
+        3 => plus(below(draw(seed, 2), 300), 1),
+        _ => plus(below(draw(seed, 3), 12), 1),
     }
 }
 
-pub fn small(random: &mut u64) -> Shape {
-    let n = size(random);
-    of_size(n, 14, random)
-}
-
 // With any N and W.
-pub fn of_size(n: u32, questions: u32, random: &mut u64) -> Shape {
+fn of_size(n: u32, questions: u32, seed: u32) -> Shape {
     Shape {
         n,
-        documents: documents(random),
-        terms: terms(random),
-        entries: below(random, 4),
-        lengths: below(random, 4),
+        documents: documents(draw(seed, 1)),
+        terms: terms(draw(seed, 2)),
+        entries: below(draw(seed, 3), 4),
+        lengths: below(draw(seed, 4), 4),
         questions,
     }
 }
 
-// The largest libraries: evenly drawn, then other ways.
-pub fn large(i: u32) -> Shape {
+// Sizes about those at which a row has one sample more.
+fn middle(i: u32) -> u32 {
+    match i % 5 {
+        0 => 511,
+        1 => 512,
+        2 => 513,
+        3 => 1024,
+        _ => 1500,
+    }
+}
+
+// As large as they may be.
+fn largest(i: u32) -> Shape {
     Shape {
         n: 65535,
         documents: 4096,
         terms: 4096,
         entries: i % 4,
-        lengths: i / 4,
-        questions: 28,
+        lengths: i / 2 % 2,
+        questions: 120,
     }
+}
+
+// The shape of library i: 3,000 small ones, 100 middle ones, then the largest.
+pub fn shape_of(i: u32, seed: u32) -> Shape {
+    if i < 3000 {
+        return of_size(size(draw(seed, 5)), 75, seed);
+    }
+    if i < 3100 {
+        return of_size(middle(i), 120, seed);
+    }
+    largest(i)
 }

@@ -94,3 +94,11 @@ pub fn same(xs: &[u32], ys: &[u32]) -> bool {
     }
     true
 }
+
+// Two slices are like two others.
+pub fn both_same(a: &[u32], b: &[u32], c: &[u32], d: &[u32]) -> bool {
+    if same(a, b) {
+        return same(c, d);
+    }
+    false
+}

@@ -7,13 +7,10 @@ use Rattle.compare.proofs.library.fill_entries.Statement.{statement}
 use Rattle.compare.proofs.library.fill_entries.Tie as tie
 
 abbrev Inv-loop : tie.InvT-loop
-Inv-loop how n documents random₀ entries₀ one i₀ random entries i = length entries ≡ length entries₀
+Inv-loop how n documents seed entries₀ i₀ entries i = length entries ≡ length entries₀
 
 abbrev μ-loop : tie.MeasureT-loop
-μ-loop how n documents random₀ entries₀ one i₀ random entries i = n - i
-
-below-requires : tie.Need-below-requires Inv-loop μ-loop
-below-requires c κs = search needs
+μ-loop how n documents seed entries₀ i₀ entries i = n - i
 
 loop-holds : tie.Need-loop-holds Inv-loop μ-loop
 loop-holds c = search needs
@@ -45,7 +42,6 @@ fill-entries-spec =
     (tie.spec
     Inv-loop
     μ-loop
-    below-requires
     loop-holds
     drawn-requires
     put-requires

@@ -7,13 +7,10 @@ use Rattle.compare.proofs.library.fill_lengths.Statement.{statement}
 use Rattle.compare.proofs.library.fill_lengths.Tie as tie
 
 abbrev Inv-loop : tie.InvT-loop
-Inv-loop how n terms random₀ lengths₀ one i₀ random lengths i = length lengths ≡ length lengths₀
+Inv-loop how n terms seed lengths₀ i₀ lengths i = length lengths ≡ length lengths₀
 
 abbrev μ-loop : tie.MeasureT-loop
-μ-loop how n terms random₀ lengths₀ one i₀ random lengths i = n - i
-
-below-requires : tie.Need-below-requires Inv-loop μ-loop
-below-requires c κs = search needs
+μ-loop how n terms seed lengths₀ i₀ lengths i = n - i
 
 loop-holds : tie.Need-loop-holds Inv-loop μ-loop
 loop-holds c = search needs
@@ -45,7 +42,6 @@ fill-lengths-spec =
     (tie.spec
     Inv-loop
     μ-loop
-    below-requires
     loop-holds
     drawn-requires
     count-at-requires

@@ -1,20 +1,23 @@
--- `small_libraries`: the counter moves to its bound.
+-- `libraries`: the counter moves to its bound.
 use Prim.Native.Nat.{_-_}
 use borrow.Author.Needs.{needs}
-use Rattle.compare.proofs.small_libraries.Statement.{statement}
-use Rattle.compare.proofs.small_libraries.Tie as tie
+use Rattle.compare.proofs.libraries.Statement.{statement}
+use Rattle.compare.proofs.libraries.Tie as tie
 
 abbrev Inv-loop : tie.InvT-loop
-Inv-loop random₀ made₀ i₀ random made i = Unit {0}
+Inv-loop made₀ i₀ made i = Unit {0}
 
 abbrev μ-loop : tie.MeasureT-loop
-μ-loop random₀ made₀ i₀ random made i = 3000 - i
+μ-loop made₀ i₀ made i = 3104 - i
 
 loop-holds : tie.Need-loop-holds Inv-loop μ-loop
 loop-holds c = search needs
 
-small-requires : tie.Need-small-requires Inv-loop μ-loop
-small-requires c κs = search needs
+draw-requires : tie.Need-draw-requires Inv-loop μ-loop
+draw-requires c κs = search needs
+
+shape-of-requires : tie.Need-shape-of-requires Inv-loop μ-loop
+shape-of-requires c κs = search needs
 
 library-requires : tie.Need-library-requires Inv-loop μ-loop
 library-requires c κs = search needs
@@ -31,14 +34,15 @@ loop-again c = search needs
 returns : tie.Need-returns Inv-loop μ-loop
 returns c = search needs
 
-pub small-libraries-spec : {M : Type 1} → statement M
-small-libraries-spec =
+pub libraries-spec : {M : Type 1} → statement M
+libraries-spec =
     tie.close
     (tie.spec
     Inv-loop
     μ-loop
     loop-holds
-    small-requires
+    draw-requires
+    shape-of-requires
     library-requires
     add-i
     loop-less
