@@ -3,8 +3,8 @@ use crate::outcome::decimal;
 use crate::outcome::text;
 use crate::slices::low;
 use archive::Opening;
+use conjunction::Terms;
 use queries::Answer;
-use queries::Terms;
 use top_k::TopK;
 
 fn number(x: u32) {
@@ -38,7 +38,7 @@ fn all_words(bytes: &[u8]) {
         size: 2,
     };
     text(b"all of words 0, 1: ");
-    match queries::conjunction(&bytes[from..to], t, &mut answers) {
+    match conjunction::conjunction(&bytes[from..to], t, &mut answers) {
         Answer::Number(x) => word(b"documents", x),
         Answer::Refused(x) => word(b"refused", x),
     }

@@ -16,7 +16,7 @@ use crate::slices::least;
 use crate::slices::minus;
 use crate::slices::plus;
 use crate::slices::same;
-use queries::Terms;
+use conjunction::Terms;
 
 // Lists with the first so many numbers of the answers lent.
 fn list_into(archive: &[u8], q: Question, answers: &mut [u32]) -> Outcome {
@@ -70,7 +70,7 @@ fn conjunction_into(archive: &[u8], t: Terms, lent: u32, answers: &mut [u32]) ->
     if answers.len() < to {
         return refused(0);
     }
-    answered(queries::conjunction(archive, t, &mut answers[from..to]))
+    answered(conjunction::conjunction(archive, t, &mut answers[from..to]))
 }
 
 // A term, now and then W or more.

@@ -15,7 +15,7 @@ use Rattle.model.specs.Outcome.{Outcome, answered, refused, refuse, andThen}
 use Rattle.model.specs.Format.{Library}
 use Rattle.model.specs.Opening.{opened}
 use Rattle.model.specs.Queries.{Pair, PairsResult, pairsInto, conjunction, conjunctionResult}
-use Rattle.queries.specs.declared.Terms.{Terms}
+use Rattle.conjunction.specs.declared.Terms.{Terms}
 use Rattle.masuvelior.specs.Chosen.{Chosen}
 
 pub copied : (ns cs : List ℕ) (i : ℕ) → i < length ns → i < length cs → take i ns ≡ take i cs

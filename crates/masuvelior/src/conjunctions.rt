@@ -1,6 +1,6 @@
 // Conjunctions of the terms in a slice, checked and of an archive opened before.
 use crate::give;
-use queries::Terms;
+use conjunction::Terms;
 ghost use mathlib.Core.Path.{_≡_};
 ghost use mathlib.Core.List.{[], _∷_};
 ghost use lib.ListN.{length};
@@ -40,7 +40,7 @@ pub extern "C" fn masuvelior_conjunction(
     ensures { λ r. ⌜ record { answer = record { code = r; outs = now (listed .exit) ∷ [] }; slices = now (answers .exit) ∷ [] } ≡ pairsLeft (conjunctionResult (now (archive .entry)) (now (chosen .entry)) (length (now (chosen .entry))) (now (answers .entry))) (now (listed .entry) ∷ []) ⌝ }
 {
     give::number(
-        queries::conjunction(archive, terms_of(chosen), answers),
+        conjunction::conjunction(archive, terms_of(chosen), answers),
         listed,
     )
 }
@@ -57,7 +57,7 @@ pub extern "C" fn masuvelior_opened_conjunction(
 {
     let l = archive::layout_in(archive);
     give::number(
-        queries::conjunction_opened(archive, l, terms_of(chosen), answers),
+        conjunction::conjunction_opened(archive, l, terms_of(chosen), answers),
         listed,
     )
 }

@@ -1,10 +1,10 @@
 -- What the results of model come to, for bytes that are refused and for an opened archive.
-use Prim.Native.Nat.{ℕ, _*_, _≤_, _<_}
+use Prim.Native.Nat.{ℕ, _≤_, _<_}
 use native.Mathlib.Omega.{arith}
-use mathlib.Core.Path.{_≡_, refl, sym, ap, _∙_}
+use mathlib.Core.Path.{_≡_, refl, ap, _∙_}
 use mathlib.Core.List.{List}
-use mathlib.Core.Bool.{Bool, true, false, cond, _||_}
-use lib.ListN.{length, getD, take}
+use mathlib.Core.Bool.{Bool, true, false, cond}
+use lib.ListN.{length, getD}
 use lib.Dec.{leb, ltb, eqb}
 use borrow.Author.Tests.{ltb-true, lt-ltb, le-ltb, le-leb, lt-leb, eq-eqb, ne-eqb}
 use Rattle.bit_rows.specs.declared.Found.{Found}
@@ -12,27 +12,16 @@ use Rattle.bit_rows.specs.declared.Found.the-variants.{At, Nothing}
 use Rattle.bit_rows.specs.Sequences.{rank, select}
 use Rattle.bit_rows.specs.Rows.{foundAt}
 use Rattle.bit_rows.proofs.Tests.{or-right}
-use Rattle.model.specs.Lists.{any, overwrite, Within}
-use Rattle.model.specs.Outcome.{Outcome, answered, refused, refuse}
-use Rattle.model.specs.Format.{Sizes}
-use Rattle.model.specs.Opening.{opening, contents}
-use Rattle.model.specs.Queries.{Place, place, none, placeBelow, Range, boundsOf, PairsResult, pairsInto, flat, quantile, conjunction, accessResult, rankResult, selectResult, rangeResult, quantileResult, listResult, conjunctionResult}
+use Rattle.model.specs.Lists.{Within}
+use Rattle.model.specs.Outcome.{answered, refused}
+use Rattle.model.specs.Opening.{contents}
+use Rattle.model.specs.Queries.{Place, place, none, placeBelow, Range, boundsOf, quantile, accessResult, rankResult, selectResult, rangeResult, quantileResult, listResult}
 use Rattle.model.proofs.Wavelet.Sorted.{quantile-ranked, tally-below-suc}
 use Rattle.queries.proofs.Occurrences.{occurs-lt}
 use Rattle.archive.specs.declared.Layout.{Layout}
-use Rattle.archive.specs.declared.Opening.the-variants.{Refused}
 use Rattle.archive.specs.Layout.{Opened}
-use Rattle.archive.specs.Opening.{openedAs}
-use Rattle.archive.proofs.Opened.{entries-size, documents-are, lengths-size}
+use Rattle.archive.proofs.Opened.{entries-size, documents-are}
 use Rattle.queries.specs.Ranges.{quantileOf, listOf}
-
--- an answer with a refusal
-pub refused-of : (bytes : List ℕ) (number : ℕ) → openedAs (opening bytes) ≡ Refused number → opening bytes ≡ refused number
-refused-of bytes number = go (opening bytes)
-  where
-    go : (o : Outcome Sizes) → openedAs o ≡ Refused number → o ≡ refused number
-    go (answered s) q = absurd (let z : _≡_ {A = ℕ} 0 1 = cc in omega arith)
-    go (refused x) q = let e : x ≡ number = cc in ap refused e
 
 -- ---- a place that is found
 
@@ -116,57 +105,3 @@ module _ (bytes : List ℕ) (l : Layout) (o : Opened bytes l) where
 
   pub list-is : (range : Range) (answers : List ℕ) → listOf (contents bytes) (boundsOf (contents bytes) range) answers ≡ listResult bytes range answers
   list-is range answers = rw (o .accepted)
-
-  -- ---- conjunction
-
-  module _ (numbers : List ℕ) (size : ℕ) (answers : List ℕ) where
-    -- the result of model, with W and N of the layout
-    abbrev conjunctionOf : PairsResult
-    conjunctionOf =
-        pairsInto answers
-        (refuse 10 (eqb size 0 || ltb 8 size)
-        (refuse 11 (any (leb (l .terms)) (take size numbers))
-        (refuse 12 (ltb (length answers) (2 * l .documents)) (answered (conjunction (contents bytes) (take size numbers))))))
-
-    conjunction-is : conjunctionOf ≡ conjunctionResult bytes numbers size answers
-    conjunction-is =
-        rw (o .accepted, lengths-size bytes l o)
-        (ap (λ (N : ℕ). pairsInto answers (refuse 10 (eqb size 0 || ltb 8 size) (refuse 11 (any (leb (l .terms)) (take size numbers))
-        (refuse 12 (ltb (length answers) (2 * N)) (answered (conjunction (contents bytes) (take size numbers))))))) (sym (documents-are bytes l o)))
-
-    abbrev refusing : ℕ → PairsResult
-    refusing number = record { outcome = refused number; answers = answers }
-
-    pub terms-none : size ≡ 0 → refusing 10 ≡ conjunctionResult bytes numbers size answers
-    terms-none h = go ∙ conjunction-is
-      where
-        go : refusing 10 ≡ conjunctionOf
-        go = rw (eq-eqb size 0 h)
-
-    pub terms-many : 8 < size → refusing 10 ≡ conjunctionResult bytes numbers size answers
-    terms-many h = go ∙ conjunction-is
-      where
-        go : refusing 10 ≡ conjunctionOf
-        go = rw (or-right (eqb size 0) (ltb 8 size) (lt-ltb 8 size h))
-
-    module _ (h : size ≡ 0 → ⊥) (k : size ≤ 8) where
-      pub terms-missing : any (leb (l .terms)) (take size numbers) ≡ true → refusing 11 ≡ conjunctionResult bytes numbers size answers
-      terms-missing e = go ∙ conjunction-is
-        where
-          go : refusing 11 ≡ conjunctionOf
-          go = rw (ne-eqb size 0 h, le-ltb 8 size k, e)
-
-      module _ (e : any (leb (l .terms)) (take size numbers) ≡ false) where
-        pub terms-short : length answers < 2 * l .documents → refusing 12 ≡ conjunctionResult bytes numbers size answers
-        terms-short m = go ∙ conjunction-is
-          where
-            go : refusing 12 ≡ conjunctionOf
-            go = rw (ne-eqb size 0 h, le-ltb 8 size k, e, lt-ltb (length answers) (2 * l .documents) m)
-
-        pub terms-answered : 2 * l .documents ≤ length answers → (r : ℕ) (after : List ℕ) → r ≡ length (conjunction (contents bytes) (take size numbers))
-            → after ≡ overwrite (flat (conjunction (contents bytes) (take size numbers))) answers
-            → _≡_ {A = PairsResult} (record { outcome = answered r; answers = after }) (conjunctionResult bytes numbers size answers)
-        terms-answered m r after p q = go ∙ conjunction-is
-          where
-            go : _≡_ {A = PairsResult} (record { outcome = answered r; answers = after }) conjunctionOf
-            go = rw (ne-eqb size 0 h, le-ltb 8 size k, e, le-ltb (length answers) (2 * l .documents) m) (λ i. record { outcome = answered (p i); answers = q i })

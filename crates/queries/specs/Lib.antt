@@ -3,5 +3,3 @@ pub mod Answers
 pub mod Written
 pub mod Ranges
 pub mod Listing
-pub mod Conjunction
-pub mod Paths

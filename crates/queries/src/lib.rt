@@ -1,18 +1,12 @@
 // The questions of an archive, each with its refusals. A name that ends in `_opened` is the question of an archive that was opened before; one that
 // ends in `_in` is that without the refusals.
-mod common;
-mod conjunctions;
 mod entry;
 mod listing;
 mod numbers;
 mod pairs;
-mod path;
 mod quantiles;
 mod ranges;
 
-pub use conjunctions::conjunction;
-pub use conjunctions::conjunction_in;
-pub use conjunctions::conjunction_opened;
 pub use entry::access;
 pub use entry::access_in;
 pub use entry::access_opened;
@@ -28,6 +22,7 @@ pub use listing::list_opened;
 pub use listing::list_terms;
 pub use listing::list_terms_opened;
 pub use numbers::per_mille;
+pub use pairs::put_pair;
 pub use quantiles::quantile;
 pub use quantiles::quantile_in;
 pub use quantiles::quantile_opened;
@@ -46,10 +41,4 @@ pub enum Placed {
     At(u32),
     Nothing,
     Refused(u32),
-}
-
-// The terms of a conjunction: so many of the numbers, one to eight.
-pub struct Terms {
-    pub numbers: [u32; 8],
-    pub size: u32,
 }

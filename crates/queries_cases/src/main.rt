@@ -1,9 +1,9 @@
 // Document 01's small library asked through the code, and refusals in their order: each line has what was found beside what is expected.
 // A lent slice holds nines, and is written out whole after a question that fills it.
 use archive::Range;
+use conjunction::Terms;
 use queries::Answer;
 use queries::Placed;
-use queries::Terms;
 
 fn write(text: &[u8]) {
     io::write_all(1, text);
@@ -76,7 +76,7 @@ fn all_case(archive: &[u8], x: u32, y: u32, size: u32, answers: &mut [u32], expe
     };
     number_case(
         b"conjunction: ",
-        queries::conjunction(archive, q, answers),
+        conjunction::conjunction(archive, q, answers),
         b" in",
     );
     write_slice(answers);

@@ -3,7 +3,6 @@ use Prim.Native.Nat.{ℕ, _*_, _≤_, min}
 use mathlib.Core.Path.{_≡_}
 use mathlib.Core.List.{List}
 use mathlib.Core.Bool.{cond}
-use lib.ListN.{length}
 use lib.Dec.{ltb}
 use Rattle.model.specs.Outcome.{Outcome, answered, refused, refuse, andThen}
 use Rattle.model.specs.Opening.{opened}

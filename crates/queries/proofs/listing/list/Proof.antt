@@ -4,9 +4,8 @@ use Rattle.model.specs.Opening.{opening}
 use Rattle.archive.specs.declared.Layout.{Layout}
 use Rattle.archive.specs.declared.Opening.the-variants.{Accepted, Refused}
 use Rattle.archive.specs.Opening.{openedAs}
-use Rattle.archive.proofs.Acceptance.{opened-of}
+use Rattle.archive.proofs.Acceptance.{opened-of, refused-of}
 use Prim.Native.Nat.{ℕ}
-use Rattle.queries.proofs.Results.{refused-of}
 use Rattle.queries.proofs.listing.list.Statement.{statement}
 use Rattle.queries.proofs.listing.list.Tie as tie
 

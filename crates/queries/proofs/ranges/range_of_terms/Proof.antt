@@ -4,10 +4,10 @@ use Rattle.model.specs.Opening.{opening}
 use Rattle.archive.specs.declared.Layout.{Layout}
 use Rattle.archive.specs.declared.Opening.the-variants.{Accepted, Refused}
 use Rattle.archive.specs.Opening.{openedAs}
-use Rattle.archive.proofs.Acceptance.{opened-of}
+use Rattle.archive.proofs.Acceptance.{opened-of, refused-of}
 use Prim.Native.Nat.{ℕ}
 use Rattle.model.specs.Queries.{ofTerms}
-use Rattle.queries.proofs.Results.{refused-of, range-is}
+use Rattle.queries.proofs.Results.{range-is}
 use Rattle.queries.proofs.ranges.range_of_terms.Statement.{statement}
 use Rattle.queries.proofs.ranges.range_of_terms.Tie as tie
 

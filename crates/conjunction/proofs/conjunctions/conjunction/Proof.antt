@@ -1,0 +1,53 @@
+use borrow.Author.Needs.{needs}
+use mathlib.Core.Path.{_≡_}
+use Rattle.model.specs.Opening.{opening}
+use Rattle.archive.specs.declared.Layout.{Layout}
+use Rattle.archive.specs.declared.Opening.the-variants.{Accepted, Refused}
+use Rattle.archive.specs.Opening.{openedAs}
+use Rattle.archive.proofs.Acceptance.{opened-of, refused-of}
+use Prim.Native.Nat.{ℕ}
+use Rattle.conjunction.proofs.conjunctions.conjunction.Statement.{statement}
+use Rattle.conjunction.proofs.conjunctions.conjunction.Tie as tie
+
+open-requires : tie.Need-open-requires
+open-requires c κs = search needs
+
+enum-known-l : tie.Need-enum-known-l
+enum-known-l c = search needs
+
+conjunction-opened-requires : tie.Need-conjunction-opened-requires
+conjunction-opened-requires c κs =
+    let s = c .before .before .before .before .before .before .before in
+    let g = s .args in
+    let l : Layout = c .before .before .l .given .0 .0 in
+    let e : openedAs (opening (g .archive .now)) ≡ Accepted l = cc in
+    let o = opened-of (g .archive .now) l e in
+    o
+
+enum-known-number : tie.Need-enum-known-number
+enum-known-number c = search needs
+
+same-length : tie.Need-same-length
+same-length c = search needs
+
+returns : tie.Need-returns
+returns c = search needs
+
+returns-2 : tie.Need-returns-2
+returns-2 c =
+    let g = c .before .before .before .before .before .before .args in
+    let x : ℕ = c .before .number .given .0 .0 in
+    let e : openedAs (opening (g .archive .now)) ≡ Refused x = cc in
+    rw (refused-of (g .archive .now) x e)
+
+pub conjunction-spec : {M : Type 1} → statement M
+conjunction-spec =
+    tie.close
+    (tie.spec
+    open-requires
+    enum-known-l
+    conjunction-opened-requires
+    enum-known-number
+    same-length
+    returns
+    returns-2)

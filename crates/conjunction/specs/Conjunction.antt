@@ -1,0 +1,31 @@
+-- The terms of a conjunction, and the next document that they have in common.
+use Prim.Native.Nat.{ℕ, _-_, _^_, _≤_}
+use mathlib.Core.List.{List, [], _∷_}
+use mathlib.Core.Bool.{cond}
+use lib.ListN.{take}
+use lib.Dec.{ltb}
+use Rattle.bit_rows.specs.Sequences.{all, upFrom}
+use Rattle.bit_rows.specs.Bits.{sum}
+use Rattle.model.specs.Lists.{keep, Within}
+use Rattle.conjunction.specs.declared.common.Next.{Next}
+use Rattle.conjunction.specs.declared.common.Next.the-variants.{Document, Nothing}
+use Rattle.conjunction.specs.declared.Terms.{Terms}
+
+-- one to eight terms, all of them among the W terms
+pub record Asked (W : ℕ) (q : Terms) : Type 0 where
+  pub some : 1 ≤ q .size
+  pub few : q .size ≤ 8
+  pub known : Within W (take (q .size) (q .numbers))
+
+-- the sum of some counts; 0 where one of them is 0
+abbrev pub commonCount : List ℕ → ℕ
+commonCount counts = cond (all (ltb 0) counts) (sum counts) 0
+
+-- the first of some documents, with the sum of its counts
+abbrev pub firstWith : (ℕ → List ℕ) → List ℕ → Next
+firstWith counts [] = Nothing
+firstWith counts (d ∷ ds) = Document d (sum (counts d))
+
+-- by a document's counts, one for each term: the first number from v up to but without 2 ^ h that has an entry under each of them
+abbrev pub nextCommon : (ℕ → List ℕ) → ℕ → ℕ → Next
+nextCommon counts h v = firstWith counts (keep (λ d. all (ltb 0) (counts d)) (upFrom v (2 ^ h - v)))

@@ -1,0 +1,119 @@
+// The path of a search for common documents: where the ranges of the terms lie in the two halves of every level, from the root down to the
+// node that is searched. It is pairs in a slice, a frame for each half: the bounds of its node, and the two places of each term.
+use crate::Terms;
+use archive::Layout;
+use archive::term_start;
+use queries::put_pair;
+use wavelet::Levels;
+use wavelet::Ranked;
+use wavelet::halve_range;
+use wavelet::rank_node;
+ghost use mathlib.Core.Path.{_≡_};
+ghost use mathlib.Core.Bool.{_&&_, _||_};
+ghost use Prim.Native.Nat.{_+_, _-_, _*_, _^_, _≤_, _<_, min};
+ghost use lib.ListN.{length, getD};
+ghost use lib.Dec.{ltb};
+ghost use Rattle.wavelet.specs.Levels.{Stored, levelOf};
+ghost use Rattle.wavelet.specs.Spans.{Ordered, halvesOf, rankedOf, spanIn};
+ghost use Rattle.archive.specs.Layout.{Opened};
+ghost use Rattle.conjunction.specs.Conjunction.{Asked};
+ghost use Rattle.conjunction.specs.Paths.{frameOf, putHalves, sidesOf, termSpan, Whole, Held};
+
+// How many entries a term has in each half of a node.
+struct Sides {
+    low: usize,
+    high: usize,
+}
+
+// The frame of a node, as a number of pairs.
+pub fn frame_of(level: usize, number: usize) -> usize
+    requires { ⌜ level ≤ 12 ⌝ }
+    ensures { λ r. ⌜ r ≡ frameOf level number ⌝ }
+{
+    18 * level + 9 * (number % 2)
+}
+
+// The root: the bounds of the terms, read from the term table.
+pub fn put_root(archive: &[u8], l: Layout, q: Terms, path: &mut [u32])
+    requires { ⌜ Opened (now archive) l ⌝ }
+    requires { ⌜ Asked (l .terms) q × (length (now path) ≡ 468) ⌝ }
+    ensures { λ _. ⌜ Held (termSpan (now (archive .entry)) l q) (q .size) (now (path .exit)) 0 0 ⌝ }
+{
+    put_pair(path, 0, 0, l.levels.entries);
+    let size = q.size as usize;
+    let mut k: usize = 0;
+    while k < size {
+        let term = q.numbers[k] as usize;
+        let a = term_start(archive, l, term);
+        let b = term_start(archive, l, term + 1);
+        put_pair(path, 1 + k, a, b);
+        k += 1;
+    }
+}
+
+// The range of one term, pair `from` of the node's frame, in both halves: pair `to` of the low one's frame and the same of the high one's.
+fn part_term(
+    bytes: &[u8],
+    t: Levels,
+    level: usize,
+    node: Ranked,
+    from: usize,
+    to: usize,
+    path: &mut [u32],
+) -> Sides
+    requires { ⌜ Stored (now bytes) t ⌝ }
+    requires { ⌜ (level < t .height) × (node ≡ rankedOf (levelOf (now bytes) t level) (node .start) (node .end)) × (from < 234) × (to + 9 < 234) × (length (now path) ≡ 468) × Ordered (t .entries) (spanIn node (getD (now path) (2 * from) 0) (getD (now path) (2 * from + 1) 0)) ⌝ }
+    ensures { λ r. ⌜ (now (path .exit) ≡ putHalves (halvesOf (levelOf (now (bytes .entry)) t level) (spanIn node (getD (now (path .entry)) (2 * from) 0) (getD (now (path .entry)) (2 * from + 1) 0))) to (now (path .entry))) × (r ≡ sidesOf (halvesOf (levelOf (now (bytes .entry)) t level) (spanIn node (getD (now (path .entry)) (2 * from) 0) (getD (now (path .entry)) (2 * from + 1) 0)))) ⌝ }
+{
+    let lo = path[2 * from] as usize;
+    let hi = path[2 * from + 1] as usize;
+    let two = halve_range(bytes, t, level, node, lo, hi);
+    let low = two.low;
+    let high = two.high;
+    put_pair(path, to, low.lo, low.hi);
+    put_pair(path, to + 9, high.lo, high.hi);
+    Sides {
+        low: low.hi - low.lo,
+        high: high.hi - high.lo,
+    }
+}
+
+fn least(x: usize, y: usize) -> usize
+    ensures { λ r. ⌜ r ≡ min x y ⌝ }
+{
+    if x < y { x } else { y }
+}
+
+// Whether a term is left, and all before it have entries in one half at least.
+fn goes_on(k: usize, size: usize, low: usize, high: usize) -> bool
+    ensures { λ r. ⌜ r ≡ (ltb k size && (ltb 0 low || ltb 0 high)) ⌝ }
+{
+    k < size && (0 < low || 0 < high)
+}
+
+// From a node where every term has entries to its halves.
+pub fn open_node(archive: &[u8], l: Layout, q: Terms, level: usize, number: usize, path: &mut [u32])
+    requires { ⌜ Opened (now archive) l ⌝ }
+    requires { ⌜ Asked (l .terms) q × (length (now path) ≡ 468) × (level < l .levels .height) × (level < 12) × (number < 2 ^ level) ⌝ }
+    requires { ⌜ Held (termSpan (now archive) l q) (q .size) (now path) level number × Whole (termSpan (now archive) l q) (q .size) (now path) level number ⌝ }
+    ensures { λ _. ⌜ Held (termSpan (now (archive .entry)) l q) (q .size) (now (path .exit)) (level + 1) (2 * number) ⌝ }
+{
+    let frame = frame_of(level, number);
+    let below = 18 * (level + 1);
+    let start = path[2 * frame] as usize;
+    let end = path[2 * frame + 1] as usize;
+    let node = rank_node(archive, l.levels, level, start, end);
+    put_pair(path, below, node.start, node.middle);
+    put_pair(path, below + 9, node.middle, node.end);
+    let mut low: usize = 1;
+    let mut high: usize = 1;
+    let mut k: usize = 0;
+    while goes_on(k, q.size as usize, low, high) {
+        let from = frame + 1 + k;
+        let to = below + 1 + k;
+        let sides = part_term(archive, l.levels, level, node, from, to, path);
+        low = least(low, sides.low);
+        high = least(high, sides.high);
+        k += 1;
+    }
+}
