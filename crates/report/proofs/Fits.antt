@@ -29,7 +29,7 @@ use Rattle.model.proofs.Ranking.{ranking-same}
 use Rattle.archive.specs.Layout.{layoutOf, Opened}
 use Rattle.archive.proofs.Opened.{limits, documents-are, entries-size}
 use Rattle.model.proofs.Listed.{length-full}
-use Rattle.top_k.proofs.Demand3.FullList.{longest-front}
+use Rattle.top_k.proofs.Demand3.FullList.{longest-covered}
 use Rattle.report.specs.Report.{digitsOf, decimal, lineOf, linesOf, lastLine, doneWord, spentWord, refusedWord, answerTo, shortlistOf, textOf, report, shown, written}
 
 -- ---- numbers and lines
@@ -163,7 +163,7 @@ length-answer N xs k allowance documents entries = go (look (leb cost allowance)
           length-last doneWord cost 3 cheap,
         ))
     go (inr e) =
-        let cut = longest-front h N k xs allowance in
+        let cut = longest-covered h xs allowance full (length full) in
         let shorts : Every short front = rw (cut .is) (every-take short (cut .size) full (full-short N k xs documents entries)) in
         let few : length front ≤ length full = rw (cut .is) (omega (arith, length-take (cut .size) full)) in
         rw e
