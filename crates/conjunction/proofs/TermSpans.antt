@@ -65,7 +65,7 @@ module _ (bytes : List ℕ) (l : Layout) (o : Opened bytes l) (q : Terms) (a : A
   abbrev to : ℕ → ℕ
   to k = termStart (contents bytes) (suc (getD (q .numbers) k 0))
 
-  size-is : length (take (q .size) (q .numbers)) ≡ q .size
+  pub size-is : length (take (q .size) (q .numbers)) ≡ q .size
   size-is = length-take-le (q .size) (q .numbers) (let f = a .few in omega arith)
 
   pub term-known : (k : ℕ) → k < q .size → getD (q .numbers) k 0 < l .terms

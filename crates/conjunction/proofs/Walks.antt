@@ -6,7 +6,7 @@ use mathlib.Core.Path.{_≡_, refl, sym, ap, _∙_, subst}
 use mathlib.Core.List.{List, [], _∷_, _++_, map, append-nil}
 use mathlib.Core.Bool.{true}
 use lib.ListN.{length, take, drop, length-map, length-take, length-drop}
-use lib.Seq.{sets, length-take-le, length-sets}
+use lib.Seq.{sets, length-sets}
 use lib.Dec.{ltb, eqb}
 use borrow.Author.Tests.{ltb-true}
 use Rattle.bit_rows.specs.Sequences.{occurrences, upFrom, below}
@@ -27,6 +27,7 @@ use Rattle.archive.proofs.Opened.{fitting, entries-size, entries-within}
 use Rattle.conjunction.specs.declared.Terms.{Terms}
 use Rattle.conjunction.specs.Conjunction.{Asked, nextCommon}
 use Rattle.queries.proofs.Stores.{written-none, written-pair, written-both, written-front}
+use Rattle.conjunction.proofs.TermSpans.{size-is}
 use Rattle.conjunction.proofs.Commons.{matches, Passed, next-first, next-none}
 
 module _ (lib : Library) (ts : List ℕ) where
@@ -133,13 +134,10 @@ matched-lt lib N (t ∷ ts) d w l e =
     (ltb-true 0 (occurrences d (under lib t)) (and-both (ltb 0 (occurrences d (under lib t))) (matches (countsUnder lib ts) d) e .0))
 
 module _ (bytes : List ℕ) (l : Layout) (o : Opened bytes l) (q : Terms) (a : Asked (l .terms) q) (eight : length (q .numbers) ≡ 8) where
-  pub size-is : length (take (q .size) (q .numbers)) ≡ q .size
-  size-is = length-take-le (q .size) (q .numbers) (let f = a .few in omega arith)
-
   pub turn : (at d c : ℕ) → nextCommon (countsUnder (contents bytes) (take (q .size) (q .numbers))) (l .levels .height) at ≡ Document d c → Turn l at d c
   turn at d c e =
       let ts : List ℕ = take (q .size) (q .numbers) in
-      let n = size-is in
+      let n = size-is bytes l o q a eight in
       let r = next-first (countsUnder (contents bytes) ts) (l .levels .height) at d c e in
       let few : length ts ≤ 8 = let f = a .few in omega arith in
       let small : length (contents bytes .entries) ≤ 65535 = omega (arith, entries-size bytes l o, fitting bytes l o .entries) in

@@ -15,5 +15,4 @@ pub mod Sorted
 pub mod Quantile
 pub mod Place
 pub mod Select
-pub mod Next
 pub mod Placing
