@@ -40,7 +40,8 @@ def chart(path, title, across, up, series):
     for y in ys:
         side, at = place(xs[0], y)
         out += [f'<path d="M{side:.1f} {at:.1f}H{WIDTH - RIGHT}" stroke="#ddd"/>', text(side - 6, at + 4, f"{y:,}", 'text-anchor="end"')]
-    for i, (name, points) in enumerate(series.items()):
+    # the first is drawn last, above the others
+    for i, (name, points) in reversed(list(enumerate(series.items()))):
         colour = COLOURS[SHOWN.index(name) if name in SHOWN else i]
         line = " ".join("%.1f,%.1f" % place(x, y) for x, y in sorted(points))
         out.append(f'<polyline points="{line}" fill="none" stroke="{colour}" stroke-width="2"/>')
