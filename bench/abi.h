@@ -26,6 +26,11 @@ typedef size_t conjunction_fn(LEVELS, size_t documents, size_t terms, const uint
 typedef uint64_t greedy_fn(LEVELS, size_t documents, size_t a, size_t b, uint32_t k, uint32_t allowance, uint32_t *answers, size_t answers_len, uint32_t *work, size_t work_len);
 typedef size_t probing_fn(LEVELS, size_t documents, size_t a, size_t b, uint32_t k, uint32_t *answers, size_t answers_len, uint32_t *work, size_t work_len);
 
+// All of them, under the prefix that F puts before a name.
+#define JOIN_(p, f) p##_##f
+#define JOIN(p, f) JOIN_(p, f)
+#define DECLARE_OPERATIONS open_fn F(open); write_fn F(write); read_fn F(read); access_fn F(access); rank_fn F(rank); select_fn F(select); quantile_fn F(quantile); list_fn F(list); conjunction_fn F(conjunction); greedy_fn F(greedy); probing_fn F(probing);
+
 struct Operations {
   open_fn *open;
   write_fn *write;

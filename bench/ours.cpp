@@ -9,23 +9,11 @@
 #else
 #define ASK(f) masuvelior_opened_##f
 #endif
-#define JOIN_(p, f) p##_##f
-#define JOIN(p, f) JOIN_(p, f)
 #define F(f) JOIN(OURS, f)
 typedef uint32_t u32;
 
 extern "C" {
-open_fn F(open);
-write_fn F(write);
-read_fn F(read);
-access_fn F(access);
-rank_fn F(rank);
-select_fn F(select);
-quantile_fn F(quantile);
-list_fn F(list);
-conjunction_fn F(conjunction);
-greedy_fn F(greedy);
-probing_fn F(probing);
+DECLARE_OPERATIONS
 
 size_t F(open)(const uint8_t *bytes, size_t len) {
   u32 n, documents, terms;
