@@ -1,6 +1,7 @@
 #!/bin/sh
 # bench/run.sh [SECONDS [FILTER]]: builds the proved library and its peers, verifies them against the scan, and times all side by side.
 # SECONDS: for each cell, all contenders together (2). FILTER: only cells with this in "data operation range k", as "skewed greedy".
+# Prints our time and its ratio to each peer's, with the sizes, and draws the plots (without python3: the whole table alone).
 # CXX: the compiler, clang++ where it is there. VERIFY_ONLY=1: no timing.
 set -e
 cd "$(dirname "$0")"
@@ -50,4 +51,11 @@ fi
 $CXX $flags -c scan.cpp -o build/scan.o
 $CXX $flags $sdsl run.cpp build/scan.o $objects "$root/target/staticlib/libmasuvelior.a" -o build/run
 build/run verify
-[ -n "$VERIFY_ONLY" ] || build/run time "${1:-2}" build/results.csv build/openings.csv ${2:+"$2"} | tee build/results.md
+[ -z "$VERIFY_ONLY" ] || exit 0
+build/run time "${1:-2}" build/results.csv build/openings.csv ${2:+"$2"} >build/results.md
+if command -v python3 >/dev/null; then
+  ./summary.py | tee build/summary.md
+  ./plot.py
+else
+  cat build/results.md
+fi
