@@ -25,32 +25,58 @@ ghost use Rattle.queries.specs.Ranges.{listOf};
 ghost use Rattle.queries.specs.Written.{Written};
 ghost use Rattle.queries.specs.Listing.{pairsUnder};
 
-// The documents of the node q of level j, as pairs from pair number `at` on; rows that remain fall at each call, and an empty half is not entered.
+// The documents of the range lo to hi of the node q of level j, which spans start to end, as pairs from pair number `at` on.
+// Rows that remain fall at each call, and an empty half is not entered. The places pass as numbers: a struct would be copied on the way.
 fn list_node(
     bytes: &[u8],
     t: Levels,
     j: usize,
     q: usize,
-    s: Span,
+    start: usize,
+    lo: usize,
+    hi: usize,
+    end: usize,
     at: usize,
     answers: &mut [u32],
 ) -> usize
     requires { ⌜ Stored (now bytes) t ⌝ }
-    requires { ⌜ (j ≤ t .height) × (q < 2 ^ j) × Ordered (t .entries) s × (2 * (at + length (pairsUnder (now bytes) t j q s)) ≤ length (now answers)) ⌝ }
-    ensures { λ r. ⌜ Written (pairsUnder (now (bytes .entry)) t j q s) at (now (answers .entry)) (now (answers .exit)) r ⌝ }
+    requires { ⌜ (j ≤ t .height) × (q < 2 ^ j) × Ordered (t .entries) (record { start = start; lo = lo; hi = hi; end = end }) × (2 * (at + length (pairsUnder (now bytes) t j q (record { start = start; lo = lo; hi = hi; end = end }))) ≤ length (now answers)) ⌝ }
+    ensures { λ r. ⌜ Written (pairsUnder (now (bytes .entry)) t j q (record { start = start; lo = lo; hi = hi; end = end })) at (now (answers .entry)) (now (answers .exit)) r ⌝ }
 {
-    if s.lo == s.hi {
+    if lo == hi {
         return at;
     }
     if j == t.height {
-        put_pair(answers, at, q, s.hi - s.lo);
+        put_pair(answers, at, q, hi - lo);
         return at + 1;
     }
-    let two = halve(bytes, t, j, s);
+    let two = halve(bytes, t, j, Span { start, lo, hi, end });
     let low = two.low;
     let high = two.high;
-    let middle = list_node(bytes, t, j + 1, 2 * q, low, at, answers);
-    list_node(bytes, t, j + 1, 2 * q + 1, high, middle, answers)
+    let middle = list_node(
+        bytes,
+        t,
+        j + 1,
+        2 * q,
+        low.start,
+        low.lo,
+        low.hi,
+        low.end,
+        at,
+        answers,
+    );
+    list_node(
+        bytes,
+        t,
+        j + 1,
+        2 * q + 1,
+        high.start,
+        high.lo,
+        high.hi,
+        high.end,
+        middle,
+        answers,
+    )
 }
 
 // The documents of the entries a up to but without b, as pairs in the front of the answers; how many.
@@ -59,13 +85,7 @@ fn list_range(bytes: &[u8], t: Levels, a: usize, b: usize, answers: &mut [u32]) 
     requires { ⌜ (a ≤ b) × (b ≤ t .entries) × (2 * length (listing (2 ^ t .height) (part a b (entriesIn (now bytes) t))) ≤ length (now answers)) ⌝ }
     ensures { λ r. ⌜ (r ≡ length (listing (2 ^ t .height) (part a b (entriesIn (now (bytes .entry)) t)))) × (now (answers .exit) ≡ overwrite (flat (listing (2 ^ t .height) (part a b (entriesIn (now (bytes .entry)) t)))) (now (answers .entry))) ⌝ }
 {
-    let s = Span {
-        start: 0,
-        lo: a,
-        hi: b,
-        end: t.entries,
-    };
-    list_node(bytes, t, 0, 0, s, 0, answers)
+    list_node(bytes, t, 0, 0, 0, a, b, t.entries, 0, answers)
 }
 
 // The documents of a range of an opened archive: none of its numbers from N up to 2 ^ h occurs.

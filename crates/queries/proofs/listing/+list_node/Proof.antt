@@ -3,6 +3,7 @@ use native.Mathlib.Omega.{arith}
 use mathlib.Core.Path.{ap}
 use mathlib.Core.Bool.{true, false}
 use lib.ListN.{length}
+use Rattle.wavelet.specs.declared.Span.{Span}
 use Rattle.wavelet.specs.Levels.{levelOf}
 use Rattle.wavelet.proofs.Ranges.{node-lt, node-few}
 use Rattle.queries.proofs.Stores.{written-none, written-pair, written-both}
@@ -28,126 +29,71 @@ abbrev list-node-below : ℕ → In 2 list-node-kinds.ps
 list-node-below t =
     and 2 list-node-kinds.ps (falls 2 list-node-kinds.ps _<_ μ-list-node t) list-node.Pre
 
-list-node-returns : (t : ℕ) → list-node-lts.Need-returns (
+-- what the calls ask and give
+abbrev list-node-calls : ℕ → list-node-lts.Claims
+list-node-calls t = (
   put-pair-reads.Asked,
   put-pair-reads.Learnt,
   halve-reads.Asked,
   halve-reads.Learnt,
   list-node-below t,
   list-node.Post,
-) (list-node-at t) list-node.Post
-list-node-returns t c =
-    let s = c .before .before .before .before in
-    let g = s .args in
-    written-none (g .at) (g .answers .now) (pairs-empty (levelOf (g .bytes .now) (g .t)) (g .t .height - g .j) (g .j) (g .q) (g .s) (c .if1 .taken))
+)
 
-list-node-sub-put-pair : (t : ℕ) → list-node-lts.Need-sub-put-pair (
-  put-pair-reads.Asked,
-  put-pair-reads.Learnt,
-  halve-reads.Asked,
-  halve-reads.Learnt,
-  list-node-below t,
-  list-node.Post,
-) (list-node-at t) list-node.Post
+list-node-returns : (t : ℕ) → list-node-lts.Need-returns (list-node-calls t) (list-node-at t) list-node.Post
+list-node-returns t c =
+    let s = c .before .before .before in
+    let g = s .args in
+    let n : Span = record { start = g .start; lo = g .lo; hi = g .hi; end = g .end } in
+    written-none (g .at) (g .answers .now) (pairs-empty (levelOf (g .bytes .now) (g .t)) (g .t .height - g .j) (g .j) (g .q) n (c .if1 .taken))
+
+list-node-sub-put-pair : (t : ℕ) → list-node-lts.Need-sub-put-pair (list-node-calls t) (list-node-at t) list-node.Post
 list-node-sub-put-pair t c = search needs
 
-list-node-put-pair-requires : (t : ℕ) → list-node-lts.Need-put-pair-requires (
-  put-pair-reads.Asked,
-  put-pair-reads.Learnt,
-  halve-reads.Asked,
-  halve-reads.Learnt,
-  list-node-below t,
-  list-node.Post,
-) (list-node-at t) list-node.Post
+list-node-put-pair-requires : (t : ℕ) → list-node-lts.Need-put-pair-requires (list-node-calls t) (list-node-at t) list-node.Post
 list-node-put-pair-requires t c κs =
-    let s = c .before .before .before .before .before .before .before .before in
+    let s = c .before .before .before .before .before .before in
     let g = s .args in
+    let n : Span = record { start = g .start; lo = g .lo; hi = g .hi; end = g .end } in
     let o = s .pre .1 .1 .2 in
     let low = s .pre .1 .0 .few in (
-      omega (arith, ap length (pairs-leaf (g .bytes .now) (g .t) (g .j) (g .q) (g .s) (omega arith) (omega arith))),
+      omega (arith, ap length (pairs-leaf (g .bytes .now) (g .t) (g .j) (g .q) n (omega arith) (omega arith))),
       omega (arith, node-few (g .q) (g .j) (g .t .height) (s .pre .1 .1 .1) (s .pre .1 .1 .0) (s .pre .1 .0 .low)),
       omega arith,
     )
 
-list-node-add-result : (t : ℕ) → list-node-lts.Need-add-result (
-  put-pair-reads.Asked,
-  put-pair-reads.Learnt,
-  halve-reads.Asked,
-  halve-reads.Learnt,
-  list-node-below t,
-  list-node.Post,
-) (list-node-at t) list-node.Post
+list-node-add-result : (t : ℕ) → list-node-lts.Need-add-result (list-node-calls t) (list-node-at t) list-node.Post
 list-node-add-result t c = search needs
 
-list-node-same-length : (t : ℕ) → list-node-lts.Need-same-length (
-  put-pair-reads.Asked,
-  put-pair-reads.Learnt,
-  halve-reads.Asked,
-  halve-reads.Learnt,
-  list-node-below t,
-  list-node.Post,
-) (list-node-at t) list-node.Post
+list-node-same-length : (t : ℕ) → list-node-lts.Need-same-length (list-node-calls t) (list-node-at t) list-node.Post
 list-node-same-length t c = search needs
 
-list-node-returns-2 : (t : ℕ) → list-node-lts.Need-returns-2 (
-  put-pair-reads.Asked,
-  put-pair-reads.Learnt,
-  halve-reads.Asked,
-  halve-reads.Learnt,
-  list-node-below t,
-  list-node.Post,
-) (list-node-at t) list-node.Post
+list-node-returns-2 : (t : ℕ) → list-node-lts.Need-returns-2 (list-node-calls t) (list-node-at t) list-node.Post
 list-node-returns-2 t c =
-    let s = c .before .before .before .before .before .before .before .before .before .before .before in
+    let s = c .before .before .before .before .before .before .before .before .before in
     let g = s .args in
+    let n : Span = record { start = g .start; lo = g .lo; hi = g .hi; end = g .end } in
     let o = s .pre .1 .1 .2 in
-    written-pair (g .at) (g .answers .now) (g .q) (g .s .hi - g .s .lo) (c .before .before .put-pair .last .0)
-    (pairs-leaf (g .bytes .now) (g .t) (g .j) (g .q) (g .s) (omega arith) (omega arith)) (c .before .before .put-pair .ensures)
+    written-pair (g .at) (g .answers .now) (g .q) (g .hi - g .lo) (c .before .before .put-pair .last .0)
+    (pairs-leaf (g .bytes .now) (g .t) (g .j) (g .q) n (omega arith) (omega arith)) (c .before .before .put-pair .ensures)
 
-list-node-halve-requires : (t : ℕ) → list-node-lts.Need-halve-requires (
-  put-pair-reads.Asked,
-  put-pair-reads.Learnt,
-  halve-reads.Asked,
-  halve-reads.Learnt,
-  list-node-below t,
-  list-node.Post,
-) (list-node-at t) list-node.Post
+list-node-halve-requires : (t : ℕ) → list-node-lts.Need-halve-requires (list-node-calls t) (list-node-at t) list-node.Post
 list-node-halve-requires t c κs = search needs
 
-list-node-add-list-node : (t : ℕ) → list-node-lts.Need-add-list-node (
-  put-pair-reads.Asked,
-  put-pair-reads.Learnt,
-  halve-reads.Asked,
-  halve-reads.Learnt,
-  list-node-below t,
-  list-node.Post,
-) (list-node-at t) list-node.Post
+list-node-add-list-node : (t : ℕ) → list-node-lts.Need-add-list-node (list-node-calls t) (list-node-at t) list-node.Post
 list-node-add-list-node t c = search needs
 
-list-node-mul-list-node : (t : ℕ) → list-node-lts.Need-mul-list-node (
-  put-pair-reads.Asked,
-  put-pair-reads.Learnt,
-  halve-reads.Asked,
-  halve-reads.Learnt,
-  list-node-below t,
-  list-node.Post,
-) (list-node-at t) list-node.Post
+list-node-mul-list-node : (t : ℕ) → list-node-lts.Need-mul-list-node (list-node-calls t) (list-node-at t) list-node.Post
 list-node-mul-list-node t c =
-    let s = c .before .before .before .before .before .before .before .before .before in
+    let s = c .before .before .before .before .before .before .before .before in
     let g = s .args in
     omega (arith, node-few (g .q) (g .j) (g .t .height) (s .pre .1 .1 .1) (s .pre .1 .1 .0) (s .pre .1 .0 .low))
 
-list-node-list-node-requires : (t : ℕ) → list-node-lts.Need-list-node-requires (
-  put-pair-reads.Asked,
-  put-pair-reads.Learnt,
-  halve-reads.Asked,
-  halve-reads.Learnt,
-  list-node-below t,
-  list-node.Post,
-) (list-node-at t) list-node.Post
+list-node-list-node-requires : (t : ℕ) → list-node-lts.Need-list-node-requires (list-node-calls t) (list-node-at t) list-node.Post
 list-node-list-node-requires t c κs =
-    let s = c .before .before .before .before .before .before .before .before .before .before in
+    let s = c .before .before .before .before .before .before .before .before .before in
     let g = s .args in
+    let n : Span = record { start = g .start; lo = g .lo; hi = g .hi; end = g .end } in
     let w = c .before .before .before .halve in (
       omega arith,
       (
@@ -156,58 +102,31 @@ list-node-list-node-requires t c κs =
           omega arith,
           omega (arith, node-lt (g .q) (g .j) false (s .pre .1 .1 .1)),
           w .ensures .1,
-          omega (arith, s .pre .1 .1 .3, pairs-count (g .bytes .now) (g .t) (g .j) (g .q) (g .s) (w .result) (w .ensures .0) (omega arith)),
+          omega (arith, s .pre .1 .1 .3, pairs-count (g .bytes .now) (g .t) (g .j) (g .q) n (w .result) (w .ensures .0) (omega arith)),
         ),
       ),
     )
 
-list-node-add-list-node-2 : (t : ℕ) → list-node-lts.Need-add-list-node-2 (
-  put-pair-reads.Asked,
-  put-pair-reads.Learnt,
-  halve-reads.Asked,
-  halve-reads.Learnt,
-  list-node-below t,
-  list-node.Post,
-) (list-node-at t) list-node.Post
+list-node-add-list-node-2 : (t : ℕ) → list-node-lts.Need-add-list-node-2 (list-node-calls t) (list-node-at t) list-node.Post
 list-node-add-list-node-2 t c = search needs
 
-list-node-mul-list-node-2 : (t : ℕ) → list-node-lts.Need-mul-list-node-2 (
-  put-pair-reads.Asked,
-  put-pair-reads.Learnt,
-  halve-reads.Asked,
-  halve-reads.Learnt,
-  list-node-below t,
-  list-node.Post,
-) (list-node-at t) list-node.Post
+list-node-mul-list-node-2 : (t : ℕ) → list-node-lts.Need-mul-list-node-2 (list-node-calls t) (list-node-at t) list-node.Post
 list-node-mul-list-node-2 t c =
-    let s = c .before .before .before .before .before .before .before .before .before .before .before .before .before in
+    let s = c .before .before .before .before .before .before .before .before .before .before .before .before in
     let g = s .args in
     omega (arith, node-few (g .q) (g .j) (g .t .height) (s .pre .1 .1 .1) (s .pre .1 .1 .0) (s .pre .1 .0 .low))
 
-list-node-add-list-node-3 : (t : ℕ) → list-node-lts.Need-add-list-node-3 (
-  put-pair-reads.Asked,
-  put-pair-reads.Learnt,
-  halve-reads.Asked,
-  halve-reads.Learnt,
-  list-node-below t,
-  list-node.Post,
-) (list-node-at t) list-node.Post
+list-node-add-list-node-3 : (t : ℕ) → list-node-lts.Need-add-list-node-3 (list-node-calls t) (list-node-at t) list-node.Post
 list-node-add-list-node-3 t c =
-    let s = c .before .before .before .before .before .before .before .before .before .before .before .before .before in
+    let s = c .before .before .before .before .before .before .before .before .before .before .before .before in
     let g = s .args in
     omega (arith, node-few (g .q) (g .j) (g .t .height) (s .pre .1 .1 .1) (s .pre .1 .1 .0) (s .pre .1 .0 .low))
 
-list-node-list-node-requires-2 : (t : ℕ) → list-node-lts.Need-list-node-requires-2 (
-  put-pair-reads.Asked,
-  put-pair-reads.Learnt,
-  halve-reads.Asked,
-  halve-reads.Learnt,
-  list-node-below t,
-  list-node.Post,
-) (list-node-at t) list-node.Post
+list-node-list-node-requires-2 : (t : ℕ) → list-node-lts.Need-list-node-requires-2 (list-node-calls t) (list-node-at t) list-node.Post
 list-node-list-node-requires-2 t c κs =
-    let s = c .before .before .before .before .before .before .before .before .before .before .before .before .before .before in
+    let s = c .before .before .before .before .before .before .before .before .before .before .before .before .before in
     let g = s .args in
+    let n : Span = record { start = g .start; lo = g .lo; hi = g .hi; end = g .end } in
     let w = c .before .before .before .before .before .before .before .halve in
     let k = c .before .before .before .list-node in
     let l : g .j < g .t .height = omega (arith, s .pre .1 .1 .0, c .before .before .before .before .before .before .before .before .if2 .left) in (
@@ -218,47 +137,27 @@ list-node-list-node-requires-2 t c κs =
           omega arith,
           node-lt (g .q) (g .j) true (s .pre .1 .1 .1),
           w .ensures .2,
-          omega (arith, k .kept .1 .1 .1 .1 .1 .1 .0, k .ensures .next, s .pre .1 .1 .3, pairs-count (g .bytes .now) (g .t) (g .j) (g .q) (g .s) (w .result) (w .ensures .0) l),
+          omega (arith, k .kept .1 .1 .1 .1 .1 .1 .1 .1 .1 .0, k .ensures .next, s .pre .1 .1 .3, pairs-count (g .bytes .now) (g .t) (g .j) (g .q) n (w .result) (w .ensures .0) l),
         ),
       ),
     )
 
-list-node-same-length-2 : (t : ℕ) → list-node-lts.Need-same-length-2 (
-  put-pair-reads.Asked,
-  put-pair-reads.Learnt,
-  halve-reads.Asked,
-  halve-reads.Learnt,
-  list-node-below t,
-  list-node.Post,
-) (list-node-at t) list-node.Post
+list-node-same-length-2 : (t : ℕ) → list-node-lts.Need-same-length-2 (list-node-calls t) (list-node-at t) list-node.Post
 list-node-same-length-2 t c = search needs
 
-list-node-returns-3 : (t : ℕ) → list-node-lts.Need-returns-3 (
-  put-pair-reads.Asked,
-  put-pair-reads.Learnt,
-  halve-reads.Asked,
-  halve-reads.Learnt,
-  list-node-below t,
-  list-node.Post,
-) (list-node-at t) list-node.Post
+list-node-returns-3 : (t : ℕ) → list-node-lts.Need-returns-3 (list-node-calls t) (list-node-at t) list-node.Post
 list-node-returns-3 t c =
-    let s = c .before .before .before .before .before .before .before .before .before .before .before .before .before .before .before .before .before in
+    let s = c .before .before .before .before .before .before .before .before .before .before .before .before .before .before .before .before in
     let g = s .args in
+    let n : Span = record { start = g .start; lo = g .lo; hi = g .hi; end = g .end } in
     let w = c .before .before .before .before .before .before .before .before .before .before .halve in
     let l : g .j < g .t .height = omega (arith, s .pre .1 .1 .0, c .before .before .before .before .before .before .before .before .before .before .before .if2 .left) in
     written-both (g .at) (g .answers .now)
-    (pairs-halves (g .bytes .now) (g .t) (g .j) (g .q) (g .s) (w .result) (w .ensures .0) l)
+    (pairs-halves (g .bytes .now) (g .t) (g .j) (g .q) n (w .result) (w .ensures .0) l)
     (c .before .before .before .before .before .before .list-node .ensures) (c .before .before .list-node2 .ensures)
 
 pub +list-node-spec : {M : Type 1} → statement M
-+list-node-spec = close μ-list-node λ t. list-node-lts.spec (
-  put-pair-reads.Asked,
-  put-pair-reads.Learnt,
-  halve-reads.Asked,
-  halve-reads.Learnt,
-  list-node-below t,
-  list-node.Post,
-)
++list-node-spec = close μ-list-node λ t. list-node-lts.spec (list-node-calls t)
     (list-node-at t)
     list-node.Post
     (list-node-returns t)

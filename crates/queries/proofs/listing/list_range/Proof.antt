@@ -32,7 +32,7 @@ returns c =
     let g = s .args in
     let k = c .before .before .list-node in
     written-front (s .pre .1 .2)
-    (subst (λ (ps : List Pair). Written ps 0 (g .answers .now) (k .last .1 .1 .1 .1 .1 .1 .0) (k .result))
+    (subst (λ (ps : List Pair). Written ps 0 (g .answers .now) (k .last .1 .1 .1 .1 .1 .1 .1 .1 .1 .0) (k .result))
     (pairs-root (g .bytes .now) (g .t) (g .a) (g .b) (s .pre .1 .0) (s .pre .1 .1)) (k .ensures))
 
 pub list-range-spec : {M : Type 1} → statement M
