@@ -16,7 +16,7 @@ use Rattle.bit_rows.specs.Bits.{numberAt, sampleCount, rowBytes}
 use Rattle.bit_rows.proofs.Tests.{look}
 use Rattle.bit_rows.proofs.Tally.{tally-le-length, all-upFrom-at}
 use Rattle.model.specs.Lists.{any, part}
-use Rattle.model.proofs.Wavelet.CountBelow.{any-leb}
+use Rattle.model.proofs.Lists.{any-leb}
 use Rattle.model.specs.Opening.{startAt, lengthAt, pairsHold, tableHolds}
 use Rattle.wavelet.specs.declared.Levels.{Levels}
 use Rattle.wavelet.specs.Levels.{entriesIn, Stored}

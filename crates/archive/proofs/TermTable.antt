@@ -3,7 +3,7 @@ use Prim.Native.Nat.{ℕ, zero, suc, _+_, _≤_, _<_}
 use native.Mathlib.Omega.{arith}
 use native.Mathlib.Nat.{add-zero, not-suc-le-zero, le-of-suc-le-suc}
 use mathlib.Core.Path.{_≡_, ap, _∙_}
-use mathlib.Core.List.{List, [], _∷_, map}
+use mathlib.Core.List.{List, map}
 use mathlib.Core.Bool.{true}
 use lib.ListN.{take}
 use lib.Dec.{eqb}
@@ -14,6 +14,7 @@ use Rattle.bit_rows.proofs.Tests.{and-both}
 use Rattle.model.specs.Format.{Library}
 use Rattle.model.specs.Opening.{startAt, lengthAt, tableHolds}
 use Rattle.model.specs.Queries.{termStart}
+use Rattle.model.proofs.Sums.{sum-take-mono}
 
 module _ (bytes : List ℕ) (n : ℕ) where
   -- the terms after the first
@@ -39,12 +40,6 @@ module _ (bytes : List ℕ) (n : ℕ) where
       omega (arith, table-total (startAt bytes t + lengthAt bytes t) (suc t) m rest)
 
 -- ---- where terms start
-
-sum-take-mono : (ls : List ℕ) (a b : ℕ) → a ≤ b → sum (take a ls) ≤ sum (take b ls)
-sum-take-mono ls zero b l = omega arith
-sum-take-mono ls (suc a) zero l = absurd (not-suc-le-zero l)
-sum-take-mono [] (suc a) (suc b) l = omega arith
-sum-take-mono (x ∷ ls) (suc a) (suc b) l = omega (arith, sum-take-mono ls a b (le-of-suc-le-suc l))
 
 pub term-start-mono : (lib : Library) (a b : ℕ) → a ≤ b → termStart lib a ≤ termStart lib b
 term-start-mono lib a b l = sum-take-mono (lib .lengths) a b l

@@ -1,5 +1,5 @@
 -- Demand 2, over what write, read and open promise: a library that is written is the one archive of its bytes, reading it yields the library, and an
--- accepted archive that is read and written again has the same bytes.
+-- accepted archive that is read and written again has the same bytes. Questions of what was written answer over the library that was given.
 use Prim.Native.Nat.{ℕ, _≤_, _<_}
 use mathlib.Core.Path.{_≡_, refl, sym, ap, ap₂, _∙_}
 use mathlib.Core.List.{List}
@@ -15,6 +15,8 @@ use Rattle.model.specs.Format.{Library, Sizes, sizesOf, encode, archiveOf, Writ
 use Rattle.model.specs.Opening.{contents, opening, ReadResult, readInto, readResult}
 use Rattle.model.proofs.Format.Valid.{valid-archive}
 use Rattle.model.proofs.Format.Theorem.{read-written, write-read, library-unique}
+use Rattle.model.specs.Demand2.{AnswersOver}
+use Rattle.model.proofs.Questions.{archive-answers}
 use Rattle.archive.specs.declared.Opening.the-variants.{Accepted}
 use Rattle.archive.specs.Layout.{layoutOf}
 use Rattle.archive.specs.Opening.{openedAs}
@@ -102,6 +104,10 @@ module _ (lib : Library) (target after : List ℕ) (n : ℕ)
       ∙ ap₂ (λ (c d : Bool). readInto b entries lengths (refuse 12 (c || d) (answered (sizesOf lib))))
       (le-ltb (length entries) (length (lib .entries)) le) (le-ltb (length lengths) (length (lib .lengths)) ll)
       ∙ (λ i. record { outcome = answered (sizesOf lib); entries = overwrite (same i .entries) entries; lengths = overwrite (same i .lengths) lengths })
+
+  -- every question answers over the library
+  pub written-answers : AnswersOver (take n after) lib
+  written-answers = archive-answers lib (take n after) (wrote lib target n after answer .archive)
 
 -- two libraries that are written as the same bytes are the same
 pub written-unique : (a b : Library) (ta tb aa ab : List ℕ) (n m : ℕ)

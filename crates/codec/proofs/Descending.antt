@@ -1,7 +1,7 @@
 -- Reading: from the keys of a level to those of the next, and from no bits to all.
+use Prim.Native.Nat.{ℕ, suc, _+_, _-_, _*_, _/_, _%_, _^_, _≤_, _<_}
 use mathlib.Core.Path.{_≡_, refl, sym, ap, ap₂, _∙_, subst}
 use mathlib.Core.List.{List, map}
-use Prim.Native.Nat.{ℕ, suc, _+_, _-_, _*_, _/_, _%_, _^_, _≤_, _<_}
 use native.Mathlib.Nat.{le-of-lt, div-one}
 use native.Mathlib.Decide.{ℕ-discrete}
 use native.Mathlib.Numerals.{add-one}
@@ -16,16 +16,16 @@ use Rattle.bit_rows.proofs.Bits.{getD-bitsOf}
 use Rattle.model.specs.Lists.{Within}
 use Rattle.model.specs.Rows.{row}
 use Rattle.model.specs.Opening.{lengthAt}
+use Rattle.model.specs.Walk.{pos, key}
 use Rattle.model.proofs.Lists.{within-at, map-take, getD-map}
-use Rattle.model.proofs.Wavelet.Walk.{pos, key}
 use Rattle.model.proofs.Wavelet.Groups.{length-groups, pos-lt}
 use Rattle.model.proofs.Wavelet.Rows.{key-half, key-lt, key-root, key-leaf, row-length, row-bit, row-pos-lt}
 use Rattle.wavelet.specs.declared.Levels.{Levels}
 use Rattle.wavelet.specs.Levels.{rowIn, entriesIn}
 use Rattle.wavelet.proofs.Stored.{length-entriesIn, within-entriesIn, level-is}
+use Rattle.archive.proofs.Bounds.{key-count}
 use Rattle.codec.specs.Keys.{Keyed, Zeros, Next}
 use Rattle.codec.specs.Reading.{placeOf, Descent, Deepened, Readable, keysAt}
-use Rattle.archive.proofs.Bounds.{key-count}
 use Rattle.codec.proofs.Leveling.{chunk-end}
 
 -- ---- one entry more

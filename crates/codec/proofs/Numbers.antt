@@ -1,15 +1,15 @@
 -- Lists of numbers and term tables, one number or one term longer; sums of front parts.
-use Prim.Native.Nat.{ℕ, zero, suc, _+_, _≤_, _<_}
+use Prim.Native.Nat.{ℕ, _+_, _<_}
 use mathlib.Core.Path.{_≡_, sym, ap, _∙_}
 use mathlib.Core.List.{List, [], _∷_, _++_, map, append-assoc}
 use native.Mathlib.Numerals.{add-one}
 use native.Mathlib.Omega.{arith}
 use lib.ListN.{length, getD, take}
-use lib.Seq.{take-suc, take-take}
+use lib.Seq.{take-suc}
 use Rattle.bit_rows.specs.Bits.{concat, sum, littleEndian}
 use Rattle.model.specs.Format.{tableFrom}
 use Rattle.model.proofs.Lists.{map-append, concat-append}
-use Rattle.model.proofs.Format.ReadBack.{sum-take-suc}
+use Rattle.model.proofs.Sums.{sum-take-suc}
 
 pub numbers-append : (xs ys : List ℕ) → concat (map littleEndian (xs ++ ys)) ≡ concat (map littleEndian xs) ++ concat (map littleEndian ys)
 numbers-append xs ys = ap concat (map-append littleEndian xs ys) ∙ concat-append (map littleEndian xs) (map littleEndian ys)
@@ -40,11 +40,3 @@ table-suc ls t l =
 
 pub sum-suc : (xs : List ℕ) (i : ℕ) → i < length xs → sum (take (i + 1) xs) ≡ sum (take i xs) + getD xs i 0
 sum-suc xs i l = rw (add-one i) (sum-take-suc xs i l)
-
-pub sum-front-le : (xs : List ℕ) (a : ℕ) → sum (take a xs) ≤ sum xs
-sum-front-le xs zero = omega arith
-sum-front-le [] (suc a) = omega arith
-sum-front-le (x ∷ xs) (suc a) = omega (arith, sum-front-le xs a)
-
-pub sum-take-le : (xs : List ℕ) (a b : ℕ) → a ≤ b → sum (take a xs) ≤ sum (take b xs)
-sum-take-le xs a b l = rw (take-take a b xs l) at (sum-front-le (take b xs) a)

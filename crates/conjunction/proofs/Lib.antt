@@ -12,3 +12,4 @@ pub mod NodeSteps
 pub mod Scans
 pub mod SearchSteps
 pub mod Walks
+pub mod Demand2

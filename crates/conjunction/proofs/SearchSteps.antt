@@ -10,12 +10,12 @@ use Rattle.bit_rows.specs.Bits.{sum}
 use Rattle.model.specs.Opening.{contents}
 use Rattle.model.specs.Queries.{countsUnder}
 use Rattle.wavelet.specs.declared.Span.{Span}
-use Rattle.conjunction.specs.declared.common.Next.the-variants.{Document}
 use Rattle.archive.specs.declared.Layout.{Layout}
 use Rattle.archive.specs.Layout.{Opened}
+use Rattle.conjunction.specs.declared.common.Next.the-variants.{Document}
 use Rattle.conjunction.specs.declared.Terms.{Terms}
 use Rattle.conjunction.specs.declared.common.Node.{Node}
-use Rattle.conjunction.specs.Conjunction.{Asked, commonCount, nextCommon}
+use Rattle.conjunction.specs.Conjunction.{Asked, commonCount, nextCommon, nextIs, nextOf}
 use Rattle.conjunction.specs.Paths.{frameOf, countAt, termSpan, Whole, Right, Held, afterOf}
 use Rattle.conjunction.proofs.Paths.{held-at}
 use Rattle.conjunction.proofs.Scans.{common-some, scan-whole, scan-dead}
@@ -53,12 +53,12 @@ module _ (bytes : List ℕ) (l : Layout) (o : Opened bytes l) (q : Terms) (a : A
       step-whole = scan-whole span (q .size) path (x .level) (x .number) right (some .0)
 
       pub step-found : x .level ≡ l .levels .height
-          → (Document (x .number) n ≡ nextCommon of-terms (l .levels .height) from) × Held span (q .size) path (l .levels .height) (x .number)
+          → (nextOf (Document (x .number) n) ≡ nextCommon of-terms (l .levels .height) from) × Held span (q .size) path (l .levels .height) (x .number)
       step-found h =
           let c : map (countAt path (frameOf (x .level) (x .number))) (below (q .size)) ≡ of-terms (x .number) =
           ap (λ (y : ℕ). map (countAt path (frameOf y (x .number))) (below (q .size))) h
           ∙ leaf-counts bytes l o q a eight path (x .number) (subst (λ (y : ℕ). Whole span (q .size) path y (x .number)) h step-whole) in (
-            ap (Document (x .number)) (some .1 ∙ ap sum c)
+            ap (nextIs (x .number)) (some .1 ∙ ap sum c)
                 ∙ sym (searching-found span (q .size) of-terms (l .levels .height) from k m h (sym (ap (all (ltb 0)) c) ∙ some .0)),
             subst (λ (y : ℕ). Held span (q .size) path y (x .number)) h (k .held),
           )

@@ -14,9 +14,8 @@ use borrow.Author.Tests.{eq-eqb, ne-eqb, eqb-true, eqb-false}
 use Rattle.bit_rows.specs.Bits.{sum}
 use Rattle.bit_rows.proofs.Tests.{look, le-or-lt}
 use Rattle.wavelet.specs.declared.Span.{Span}
-use Rattle.conjunction.specs.declared.common.Next.the-variants.{Document, Nothing}
 use Rattle.conjunction.specs.declared.common.Node.{Node}
-use Rattle.conjunction.specs.Conjunction.{nextCommon}
+use Rattle.conjunction.specs.Conjunction.{nextCommon, nextIs, noFurther}
 use Rattle.conjunction.specs.Paths.{Held, Ready, at, afterOf, resumeOf}
 use Rattle.conjunction.proofs.Paths.{held-after}
 use Rattle.conjunction.proofs.Commons.{matches, Passed, next-found, next-nothing}
@@ -154,7 +153,7 @@ module _ (span : ℕ → ℕ → ℕ → Span) (size : ℕ) (counts : ℕ → Li
       past-less few = omega (arith, behind, pow-pos (h - x .level), stands-le h (afterOf (x .level) (x .number)) ((x .number + 1) * 2 ^ (h - x .level)) next, next .start)
 
       -- a leaf with a match
-      pub searching-found : x .level ≡ h → matches counts (x .number) ≡ true → nextCommon counts h from ≡ Document (x .number) (sum (counts (x .number)))
+      pub searching-found : x .level ≡ h → matches counts (x .number) ≡ true → nextCommon counts h from ≡ nextIs (x .number) (sum (counts (x .number)))
       searching-found e t =
           let z : h - x .level ≡ 0 = omega arith in
           let s : x .number * 2 ^ (h - x .level) ≡ x .number = ap (λ (y : ℕ). x .number * 2 ^ y) z ∙ mul-one (x .number) in
@@ -184,7 +183,7 @@ module _ (span : ℕ → ℕ → ℕ → Span) (size : ℕ) (counts : ℕ → Li
       down-less = omega (arith, down)
 
     -- past the root
-    pub searching-none : 2 ^ x .level ≤ x .number → nextCommon counts h from ≡ Nothing
+    pub searching-none : 2 ^ x .level ≤ x .number → nextCommon counts h from ≡ noFurther
     searching-none l =
         let e : x .number ≡ 2 ^ x .level = let i = o .stands .inside in omega arith in
         let s : x .number * 2 ^ (h - x .level) ≡ 2 ^ h = ap (λ (y : ℕ). y * 2 ^ (h - x .level)) e ∙ all-numbers h (x .level) (o .stands .deep) in

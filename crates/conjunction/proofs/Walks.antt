@@ -12,21 +12,20 @@ use borrow.Author.Tests.{ltb-true}
 use Rattle.bit_rows.specs.Sequences.{occurrences, upFrom, below}
 use Rattle.bit_rows.specs.Bits.{sum}
 use Rattle.bit_rows.proofs.Tests.{and-both}
+use Rattle.bit_rows.proofs.Tally.{tally-le-length, upFrom-append, length-upFrom, map-append}
 use Rattle.model.specs.Lists.{keep, part, overwrite, Within}
 use Rattle.model.specs.Format.{Library}
-use Rattle.model.proofs.Lists.{keep-append, length-keep, within-part}
-use Rattle.bit_rows.proofs.Tally.{tally-le-length, upFrom-append, length-upFrom, map-append}
-use Rattle.queries.proofs.Occurrences.{keep-none, occurs-lt}
 use Rattle.model.specs.Queries.{Pair, flat, termStart, under, countsUnder, conjunction}
-use Rattle.conjunction.specs.declared.common.Next.the-variants.{Document, Nothing}
-use Rattle.queries.specs.Written.{Written}
 use Rattle.model.specs.Opening.{contents}
+use Rattle.model.proofs.Lists.{keep-append, length-keep, within-part}
 use Rattle.archive.specs.declared.Layout.{Layout}
 use Rattle.archive.specs.Layout.{Opened}
 use Rattle.archive.proofs.Opened.{fitting, entries-size, entries-within}
-use Rattle.conjunction.specs.declared.Terms.{Terms}
-use Rattle.conjunction.specs.Conjunction.{Asked, nextCommon}
+use Rattle.queries.specs.Written.{Written}
+use Rattle.queries.proofs.Occurrences.{keep-none, occurs-lt}
 use Rattle.queries.proofs.Stores.{written-none, written-pair, written-both, written-front}
+use Rattle.conjunction.specs.declared.Terms.{Terms}
+use Rattle.conjunction.specs.Conjunction.{Asked, nextCommon, nextIs, noFurther}
 use Rattle.conjunction.proofs.TermSpans.{size-is}
 use Rattle.conjunction.proofs.Commons.{matches, Passed, next-first, next-none}
 
@@ -82,7 +81,7 @@ module _ (lib : Library) (h : ℕ) (ts : List ℕ) (before : List ℕ) where
     walking-few = omega (arith, o .written .next, found-le lib ts at)
 
     -- the next document is written, and the walk stands behind it
-    pub walking-next : {m : List ℕ} (d c : ℕ) → nextCommon (countsUnder lib ts) h at ≡ Document d c → d < lib .documents
+    pub walking-next : {m : List ℕ} (d c : ℕ) → nextCommon (countsUnder lib ts) h at ≡ nextIs d c → d < lib .documents
         → m ≡ sets after (2 * found) (d ∷ c ∷ []) → Walking lib ts before (d + 1) (found + 1) m
     walking-next {m} d c e l s =
         let r = next-first (countsUnder lib ts) h at d c e in
@@ -96,7 +95,7 @@ module _ (lib : Library) (h : ℕ) (ts : List ℕ) (before : List ℕ) where
         }
 
     -- there is none
-    pub walking-end : nextCommon (countsUnder lib ts) h at ≡ Nothing → lib .documents ≤ 2 ^ h → 2 * lib .documents ≤ length before
+    pub walking-end : nextCommon (countsUnder lib ts) h at ≡ noFurther → lib .documents ≤ 2 ^ h → 2 * lib .documents ≤ length before
         → (found ≡ length (conjunction lib ts)) × (after ≡ overwrite (flat (conjunction lib ts)) before)
     walking-end e fit room =
         let p = found-pass lib ts at (lib .documents) (o .low) (λ x a b. next-none (countsUnder lib ts) h at e x a (omega arith)) in
@@ -134,7 +133,7 @@ matched-lt lib N (t ∷ ts) d w l e =
     (ltb-true 0 (occurrences d (under lib t)) (and-both (ltb 0 (occurrences d (under lib t))) (matches (countsUnder lib ts) d) e .0))
 
 module _ (bytes : List ℕ) (l : Layout) (o : Opened bytes l) (q : Terms) (a : Asked (l .terms) q) (eight : length (q .numbers) ≡ 8) where
-  pub turn : (at d c : ℕ) → nextCommon (countsUnder (contents bytes) (take (q .size) (q .numbers))) (l .levels .height) at ≡ Document d c → Turn l at d c
+  pub turn : (at d c : ℕ) → nextCommon (countsUnder (contents bytes) (take (q .size) (q .numbers))) (l .levels .height) at ≡ nextIs d c → Turn l at d c
   turn at d c e =
       let ts : List ℕ = take (q .size) (q .numbers) in
       let n = size-is bytes l o q a eight in

@@ -12,17 +12,17 @@ use Rattle.greedy.specs.declared.run.Progress.{Progress}
 use Rattle.greedy.specs.Moves.{countOf, livesIn, frontierIn, nextMove, moveIs, movedIs, Moves}
 use Rattle.greedy.specs.Results.{moveAt, after, writtenBy, Advanced}
 
-module _ (bytes : List ℕ) (s : Search) (p : Progress) (answers work : List ℕ) (r : Moved) (v : List ℕ)
-    (moved : movedIs s r v ≡ moveAt bytes s p work) where
+module _ (bytes : List ℕ) (s : Search) (allowance : ℕ) (p : Progress) (answers work : List ℕ) (r : Moved) (v : List ℕ)
+    (moved : movedIs s r v ≡ moveAt bytes s allowance p work) where
   -- the move is the one that was made
-  pub told : (m : Move) → moveIs (r .made) ≡ m → moveAt bytes s p work .move ≡ m
+  pub told : (m : Move) → moveIs (r .made) ≡ m → moveAt bytes s allowance p work .move ≡ m
   told m e = sym (ap (λ x. x .move) moved) ∙ e
 
   pub advanced : Moves bytes s work (frontierIn s v (r .waiting)) v (r .waiting) → (m : Move) → moveIs (r .made) ≡ m
-      → (listed left : ℕ) (spent : Bool) → record { waiting = r .waiting; listed = listed; left = left; spent = spent } ≡ after m p (r .waiting)
+      → (listed openings : ℕ) (spent : Bool) → record { waiting = r .waiting; listed = listed; openings = openings; spent = spent } ≡ after m p (r .waiting)
       → (out : List ℕ) → out ≡ writtenBy m (p .listed) answers
-      → Advanced bytes s p answers work (record { waiting = r .waiting; listed = listed; left = left; spent = spent }) out v
-  advanced M m e listed left spent x out w = record {
+      → Advanced bytes s allowance p answers work (record { waiting = r .waiting; listed = listed; openings = openings; spent = spent }) out v
+  advanced M m e listed openings spent x out w = record {
     progress = x ∙ ap (λ (y : Move). after y p (r .waiting)) (sym (told m e));
     written = w ∙ ap (λ (y : Move). writtenBy y (p .listed) answers) (sym (told m e));
     moves = record { kept = M .kept; waits = ap (λ y. y .waiting) moved; rest = M .rest; size = M .size };

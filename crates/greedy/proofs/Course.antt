@@ -13,7 +13,7 @@ use Rattle.model.specs.Lists.{any, overwrite}
 use Rattle.model.specs.Queries.{Pair, flat}
 use Rattle.model.specs.TopK.{Node, node, countIn, doneWith, spentWith, endedOf}
 use Rattle.model.specs.TopK as model
-use Rattle.model.specs.Search.{Waiting, Move, names, opens, findsSpent, isOpening, isSpent, namedIn, answerOf, waitHalves, moveOf, movesFrom, begin, occupied, searchMoves}
+use Rattle.model.specs.Search.{Waiting, Move, Moved, names, opens, findsSpent, isOpening, isSpent, namedIn, answerOf, waitHalves, moveOf, movesFrom, begin, occupied, searchMoves}
 use Rattle.greedy.specs.declared.run.Progress.{Progress}
 use Rattle.greedy.specs.Results.{after, roomFor, writtenBy}
 
@@ -56,52 +56,50 @@ flat-write (r ∷ ps) p (x ∷ y ∷ out) l =
 
 -- ---- the course
 
--- f waits; so many pairs are listed, so much is left, the allowance was found spent or not; the answer slice was out₀ and is out
-pub record Course (h : ℕ) (ys : List ℕ) (k allowance : ℕ) (f : List Waiting) (listed left : ℕ) (spent : Bool) (out₀ out : List ℕ) : Type 0 where
+-- f waits; so many pairs are listed, so many nodes were opened, the allowance was found spent or not; the answer slice was out₀ and is out
+pub record Course (h : ℕ) (ys : List ℕ) (k allowance : ℕ) (f : List Waiting) (listed openings : ℕ) (spent : Bool) (out₀ out : List ℕ) : Type 0 where
   pub moves : List Move
   pub todo : ℕ
   pub goal : todo + listed ≡ k
-  pub path : searchMoves h ys k allowance ≡ moves ++ cond spent [] (movesFrom (countIn ys) (occupied ys) (todo + left) todo left f)
+  pub path : searchMoves h ys k allowance
+      ≡ moves ++ cond spent [] (movesFrom (countIn ys) (occupied ys) (todo + (allowance - openings)) todo (allowance - openings) f)
   pub named : length (namedIn moves) ≡ listed
-  pub openings : left + tally isOpening moves ≡ allowance
+  pub opened : tally isOpening moves ≡ openings
+  pub covered : openings ≤ allowance
   pub found : any isSpent moves ≡ spent
-  pub dry : spent ≡ true → left ≡ 0
   pub written : out ≡ overwrite (flat (namedIn moves)) out₀
   pub size : length out ≡ length out₀
 
-not-spent : {A : Type 0} → false ≡ true → A
-not-spent e = let z : _≡_ {A = ℕ} 0 1 = ap (λ b. cond b 1 0) e in absurd (omega arith)
-
-pub course-begin : (h : ℕ) (ys : List ℕ) (k allowance : ℕ) (out : List ℕ) → Course h ys k allowance (begin h ys) 0 allowance false out out
+pub course-begin : (h : ℕ) (ys : List ℕ) (k allowance : ℕ) (out : List ℕ) → Course h ys k allowance (begin h ys) 0 0 false out out
 course-begin h ys k allowance out = record {
   moves = [];
   todo = k;
   goal = add-zero k;
-  path = refl;
+  path = ap (λ (left : ℕ). movesFrom (countIn ys) (occupied ys) (k + left) k left (begin h ys)) (omega arith);
   named = refl;
-  openings = add-zero allowance;
+  opened = refl;
+  covered = omega arith;
   found = refl;
-  dry = λ e. not-spent e;
   written = refl;
   size = refl;
 }
 
 -- the moves from a node on, of which one at least is to do
-module _ (h : ℕ) (ys : List ℕ) (k allowance : ℕ) (out₀ out : List ℕ) (listed left : ℕ) (w : Waiting) (rest : List Waiting)
-    (C : Course h ys k allowance (w ∷ rest) listed left false out₀ out) (more : listed < k) where
+module _ (h : ℕ) (ys : List ℕ) (k allowance : ℕ) (out₀ out : List ℕ) (listed openings : ℕ) (w : Waiting) (rest : List Waiting)
+    (C : Course h ys k allowance (w ∷ rest) listed openings false out₀ out) (more : listed < k) (left : ℕ) (is : left ≡ allowance - openings) where
   next : searchMoves h ys k allowance
       ≡ C .moves ++ movesFrom (countIn ys) (occupied ys) (suc (C .todo - 1 + left)) (suc (C .todo - 1)) left (w ∷ rest)
   next =
       let g = C .goal in
       let e : C .todo ≡ suc (C .todo - 1) = omega arith in
-      let f : C .todo + left ≡ suc (C .todo - 1 + left) = omega arith in
-      C .path ∙ ap₂ (λ (fuel todo : ℕ). C .moves ++ movesFrom (countIn ys) (occupied ys) fuel todo left (w ∷ rest)) f e
+      let f : C .todo + (allowance - openings) ≡ suc (C .todo - 1 + left) = omega arith in
+      C .path ∙ (λ i. C .moves ++ movesFrom (countIn ys) (occupied ys) (f i) (e i) (sym is i) (w ∷ rest))
 
   append : (m : Move) (ms : List Move) → searchMoves h ys k allowance ≡ C .moves ++ (m ∷ ms) → searchMoves h ys k allowance ≡ (C .moves ++ (m ∷ [])) ++ ms
   append m ms e = e ∙ sym (append-assoc (C .moves) (m ∷ []) ms)
 
-  opened : (m : Move) → tally isOpening (C .moves ++ (m ∷ [])) ≡ tally isOpening (C .moves) + tally isOpening (m ∷ [])
-  opened m = tally-append isOpening (C .moves) (m ∷ [])
+  count-opened : (m : Move) → tally isOpening (C .moves ++ (m ∷ [])) ≡ openings + tally isOpening (m ∷ [])
+  count-opened m = tally-append isOpening (C .moves) (m ∷ []) ∙ ap (λ (n : ℕ). n + tally isOpening (m ∷ [])) (C .opened)
 
   found-on : (m : Move) (b : Bool) → isSpent m ≡ b → any isSpent (C .moves ++ (m ∷ [])) ≡ b
   found-on m b e = spent-append (C .moves) m ∙ ap₂ _||_ (C .found) e
@@ -111,111 +109,111 @@ module _ (h : ℕ) (ys : List ℕ) (k allowance : ℕ) (out₀ out : List ℕ) (
   silent m e = named-append (C .moves) (m ∷ []) ∙ ap (λ (r : List Pair). namedIn (C .moves) ++ r) e ∙ append-nil (namedIn (C .moves))
 
 -- so many moves are left at most
-abbrev pub fuelOf : ℕ → Progress → ℕ
-fuelOf k p = cond (p .spent) 0 (suc (k - p .listed + p .left))
+abbrev pub fuelOf : ℕ → ℕ → Progress → ℕ
+fuelOf k allowance p = cond (p .spent) 0 (suc (k - p .listed + (allowance - p .openings)))
 
-module _ (h : ℕ) (ys : List ℕ) (k allowance : ℕ) (out₀ out : List ℕ) (listed : ℕ) (more : listed < k) (rest : List Waiting) (c : ℕ) where
-  abbrev At : ℕ → Node → Type 0
-  At left n = Course h ys k allowance (record { block = n; count = c } ∷ rest) listed left false out₀ out
+module _ (h : ℕ) (ys : List ℕ) (k allowance : ℕ) (out₀ out : List ℕ) (listed openings : ℕ) (more : listed < k) (rest : List Waiting) (c : ℕ) where
+  abbrev At : Node → Type 0
+  At n = Course h ys k allowance (record { block = n; count = c } ∷ rest) listed openings false out₀ out
+
+  abbrev P : ℕ → Progress
+  P x = record { waiting = x; listed = listed; openings = openings; spent = false }
+
+  abbrev moved : ℕ → Node → Moved
+  moved left n = moveOf (countIn ys) (occupied ys) left n c rest
 
   -- each move of the search goes on with its course
-  pub course-step : (left : ℕ) (n : Node) → At left n → (x y : ℕ)
-      → roomFor (moveOf (countIn ys) (occupied ys) left n c rest .move) listed out
-      → Course h ys k allowance (moveOf (countIn ys) (occupied ys) left n c rest .waiting)
-      (after (moveOf (countIn ys) (occupied ys) left n c rest .move) (record { waiting = x; listed = listed; left = left; spent = false }) y .listed)
-      (after (moveOf (countIn ys) (occupied ys) left n c rest .move) (record { waiting = x; listed = listed; left = left; spent = false }) y .left)
-      (after (moveOf (countIn ys) (occupied ys) left n c rest .move) (record { waiting = x; listed = listed; left = left; spent = false }) y .spent)
-      out₀ (writtenBy (moveOf (countIn ys) (occupied ys) left n c rest .move) listed out)
-  course-step left (node zero q) C x y room =
+  pub course-step : (left : ℕ) (n : Node) → left ≡ allowance - openings → At n → (x y : ℕ) → roomFor (moved left n .move) listed out
+      → Course h ys k allowance (moved left n .waiting) (after (moved left n .move) (P x) y .listed) (after (moved left n .move) (P x) y .openings)
+      (after (moved left n .move) (P x) y .spent) out₀ (writtenBy (moved left n .move) listed out)
+  course-step left (node zero q) is C x y room =
       let w : Waiting = record { block = node zero q; count = c } in
       let p : Pair = record { document = q; count = c } in
       let g = C .goal in
-      let o = C .openings in
       let e : namedIn (C .moves ++ (names p ∷ [])) ≡ namedIn (C .moves) ++ (p ∷ []) = named-append (C .moves) (names p ∷ []) in
       let r : 2 * length (namedIn (C .moves)) + 2 ≤ length out₀ = omega (arith, C .named, C .size) in
       record {
         moves = C .moves ++ (names p ∷ []);
         todo = C .todo - 1;
         goal = omega arith;
-        path = append h ys k allowance out₀ out listed left w rest C more (names p)
-            (movesFrom (countIn ys) (occupied ys) (C .todo - 1 + left) (C .todo - 1) left rest)
-            (next h ys k allowance out₀ out listed left w rest C more);
+        path = append h ys k allowance out₀ out listed openings w rest C more (allowance - openings) refl (names p)
+            (movesFrom (countIn ys) (occupied ys) (C .todo - 1 + (allowance - openings)) (C .todo - 1) (allowance - openings) rest)
+            (next h ys k allowance out₀ out listed openings w rest C more (allowance - openings) refl);
         named = ap length e ∙ length-append (namedIn (C .moves)) (p ∷ []) ∙ ap (λ (n : ℕ). n + 1) (C .named);
-        openings = omega (arith, opened h ys k allowance out₀ out listed left w rest C more (names p));
-        found = found-on h ys k allowance out₀ out listed left w rest C more (names p) false refl;
-        dry = λ s. not-spent s;
+        opened = omega (arith, count-opened h ys k allowance out₀ out listed openings w rest C more left is (names p));
+        covered = C .covered;
+        found = found-on h ys k allowance out₀ out listed openings w rest C more left is (names p) false refl;
         written = (λ i. set (set (C .written i) (2 * sym (C .named) i) q) (2 * sym (C .named) i + 1) c)
             ∙ sym (flat-write (namedIn (C .moves)) p out₀ r) ∙ ap (λ (ps : List Pair). overwrite (flat ps) out₀) (sym e);
         size = length-set (set out (2 * listed) q) (2 * listed + 1) c ∙ length-set out (2 * listed) q ∙ C .size;
       }
-  course-step zero (node (suc l) q) C x y room =
+  course-step zero (node (suc l) q) is C x y room =
       let w : Waiting = record { block = node (suc l) q; count = c } in
-      let s = silent h ys k allowance out₀ out listed zero w rest C more findsSpent refl in
+      let s = silent h ys k allowance out₀ out listed openings w rest C more zero is findsSpent refl in
       record {
         moves = C .moves ++ (findsSpent ∷ []);
         todo = C .todo;
         goal = C .goal;
-        path = next h ys k allowance out₀ out listed zero w rest C more ∙ sym (append-nil (C .moves ++ (findsSpent ∷ [])));
+        path = next h ys k allowance out₀ out listed openings w rest C more zero is ∙ sym (append-nil (C .moves ++ (findsSpent ∷ [])));
         named = ap length s ∙ C .named;
-        openings = let o = C .openings in omega (arith, opened h ys k allowance out₀ out listed zero w rest C more findsSpent);
-        found = found-on h ys k allowance out₀ out listed zero w rest C more findsSpent true refl;
-        dry = λ e. refl;
+        opened = omega (arith, count-opened h ys k allowance out₀ out listed openings w rest C more zero is findsSpent);
+        covered = C .covered;
+        found = found-on h ys k allowance out₀ out listed openings w rest C more zero is findsSpent true refl;
         written = C .written ∙ ap (λ (ps : List Pair). overwrite (flat ps) out₀) (sym s);
         size = C .size;
       }
-  course-step (suc left) (node (suc l) q) C x y room =
+  course-step (suc left) (node (suc l) q) is C x y room =
       let n : Node = node (suc l) q in
       let w : Waiting = record { block = n; count = c } in
-      let s = silent h ys k allowance out₀ out listed (suc left) w rest C more (opens n) refl in
+      let s = silent h ys k allowance out₀ out listed openings w rest C more (suc left) is (opens n) refl in
       let g = C .goal in
-      let o = C .openings in
-      let fuel : C .todo - 1 + suc left ≡ suc (C .todo - 1) + (suc left - 1) = omega arith in
+      let fuel : C .todo - 1 + suc left ≡ suc (C .todo - 1) + (allowance - (openings + 1)) = omega arith in
+      let less : suc left - 1 ≡ allowance - (openings + 1) = omega arith in
       record {
         moves = C .moves ++ (opens n ∷ []);
         todo = suc (C .todo - 1);
         goal = omega arith;
-        path = append h ys k allowance out₀ out listed (suc left) w rest C more (opens n)
-            (movesFrom (countIn ys) (occupied ys) (suc (C .todo - 1) + (suc left - 1)) (suc (C .todo - 1)) (suc left - 1)
+        path = append h ys k allowance out₀ out listed openings w rest C more (suc left) is (opens n)
+            (movesFrom (countIn ys) (occupied ys) (suc (C .todo - 1) + (allowance - (openings + 1))) (suc (C .todo - 1)) (allowance - (openings + 1))
             (waitHalves (countIn ys) (occupied ys) l q rest))
-            (next h ys k allowance out₀ out listed (suc left) w rest C more
-            ∙ ap (λ (j : ℕ). C .moves ++ (opens n ∷ movesFrom (countIn ys) (occupied ys) j (suc (C .todo - 1)) (suc left - 1)
-            (waitHalves (countIn ys) (occupied ys) l q rest))) fuel);
+            (next h ys k allowance out₀ out listed openings w rest C more (suc left) is
+            ∙ ap₂ (λ (j t : ℕ). C .moves ++ (opens n ∷ movesFrom (countIn ys) (occupied ys) j (suc (C .todo - 1)) t
+            (waitHalves (countIn ys) (occupied ys) l q rest))) fuel less);
         named = ap length s ∙ C .named;
-        openings = omega (arith, opened h ys k allowance out₀ out listed (suc left) w rest C more (opens n));
-        found = found-on h ys k allowance out₀ out listed (suc left) w rest C more (opens n) false refl;
-        dry = λ e. not-spent e;
+        opened = omega (arith, count-opened h ys k allowance out₀ out listed openings w rest C more (suc left) is (opens n));
+        covered = omega arith;
+        found = found-on h ys k allowance out₀ out listed openings w rest C more (suc left) is (opens n) false refl;
         written = C .written ∙ ap (λ (ps : List Pair). overwrite (flat ps) out₀) (sym s);
         size = C .size;
       }
 
   -- a document that is named finds room
-  pub course-room : (left : ℕ) (n : Node) → At left n → 2 * length (namedIn (searchMoves h ys k allowance)) ≤ length out
-      → roomFor (moveOf (countIn ys) (occupied ys) left n c rest .move) listed out
-  course-room left (node zero q) C room =
+  pub course-room : (left : ℕ) (n : Node) → left ≡ allowance - openings → At n → 2 * length (namedIn (searchMoves h ys k allowance)) ≤ length out
+      → roomFor (moved left n .move) listed out
+  course-room left (node zero q) is C room =
       let w : Waiting = record { block = node zero q; count = c } in
       let p : Pair = record { document = q; count = c } in
       let ms : List Move = movesFrom (countIn ys) (occupied ys) (C .todo - 1 + left) (C .todo - 1) left rest in
       omega (
         arith,
-        ap (λ (l : List Move). length (namedIn l)) (next h ys k allowance out₀ out listed left w rest C more),
+        ap (λ (l : List Move). length (namedIn l)) (next h ys k allowance out₀ out listed openings w rest C more left is),
         ap length (named-append (C .moves) (names p ∷ ms)),
         length-append (namedIn (C .moves)) (p ∷ namedIn ms),
         C .named,
       )
-  course-room zero (node (suc l) q) C room = tt
-  course-room (suc left) (node (suc l) q) C room = tt
+  course-room zero (node (suc l) q) is C room = tt
+  course-room (suc left) (node (suc l) q) is C room = tt
 
-  pub course-less : (left : ℕ) (n : Node) (x y : ℕ)
-      → fuelOf k (after (moveOf (countIn ys) (occupied ys) left n c rest .move) (record { waiting = x; listed = listed; left = left; spent = false }) y)
-      < fuelOf k (record { waiting = x; listed = listed; left = left; spent = false })
-  course-less left (node zero q) x y = omega arith
-  course-less zero (node (suc l) q) x y = omega arith
-  course-less (suc left) (node (suc l) q) x y = omega arith
+  pub course-less : (left : ℕ) (n : Node) → left ≡ allowance - openings → (x y : ℕ)
+      → fuelOf k allowance (after (moved left n .move) (P x) y) < fuelOf k allowance (P x)
+  course-less left (node zero q) is x y = omega arith
+  course-less zero (node (suc l) q) is x y = omega arith
+  course-less (suc left) (node (suc l) q) is x y = omega arith
 
 -- ---- the end
 
-module _ (h : ℕ) (ys : List ℕ) (k allowance : ℕ) (f : List Waiting) (listed left : ℕ) (spent : Bool) (out₀ out : List ℕ)
-    (C : Course h ys k allowance f listed left spent out₀ out) where
+module _ (h : ℕ) (ys : List ℕ) (k allowance : ℕ) (f : List Waiting) (listed openings : ℕ) (spent : Bool) (out₀ out : List ℕ)
+    (C : Course h ys k allowance f listed openings spent out₀ out) where
   no-moves : (fuel left : ℕ) (f : List Waiting) → movesFrom (countIn ys) (occupied ys) fuel 0 left f ≡ []
   no-moves zero left f = refl
   no-moves (suc fuel) left f = refl
@@ -232,6 +230,9 @@ module _ (h : ℕ) (ys : List ℕ) (k allowance : ℕ) (f : List Waiting) (liste
   pub course-end : (spent ≡ true) ⊎ ((f ≡ []) ⊎ (k ≤ listed)) → searchMoves h ys k allowance ≡ C .moves
   course-end d = C .path ∙ ap (λ (ms : List Move). C .moves ++ ms) (go d) ∙ append-nil (C .moves)
     where
+      left : ℕ
+      left = allowance - openings
+
       go : (spent ≡ true) ⊎ ((f ≡ []) ⊎ (k ≤ listed)) → cond spent [] (movesFrom (countIn ys) (occupied ys) (C .todo + left) (C .todo) left f) ≡ []
       go (inl e) = rw e
       go (inr (inl e)) = rw (e, no-nodes (C .todo + left) (C .todo) left) (same spent)
@@ -240,15 +241,12 @@ module _ (h : ℕ) (ys : List ℕ) (k allowance : ℕ) (f : List Waiting) (liste
           let z : C .todo ≡ 0 = omega arith in
           rw (z, no-moves (0 + left) left f) (same spent)
 
-  -- the answer that the moves come to
-  pub course-ended : endedOf (answerOf (C .moves)) ≡ cond spent (spentWith listed allowance) (doneWith listed (allowance - left))
-  course-ended = rw (C .found) (go spent (C .dry))
+  -- the answer that the moves come to: the counted openings, whichever way it ended
+  pub course-ended : endedOf (answerOf (C .moves)) ≡ cond spent (spentWith listed openings) (doneWith listed openings)
+  course-ended = rw (C .found, C .opened) (go spent)
     where
-      o : left + tally isOpening (C .moves) ≡ allowance
-      o = C .openings
-
-      go : (b : Bool) → (b ≡ true → left ≡ 0)
-          → endedOf (cond b (model.spent (namedIn (C .moves)) (tally isOpening (C .moves))) (model.done (namedIn (C .moves)) (tally isOpening (C .moves))))
-          ≡ cond b (spentWith listed allowance) (doneWith listed (allowance - left))
-      go true d = let z = d refl in let t : tally isOpening (C .moves) ≡ allowance = omega (arith, o) in ap₂ spentWith (C .named) t
-      go false d = let t : tally isOpening (C .moves) ≡ allowance - left = omega (arith, o) in ap₂ doneWith (C .named) t
+      go : (b : Bool)
+          → endedOf (cond b (model.spent (namedIn (C .moves)) openings) (model.done (namedIn (C .moves)) openings))
+          ≡ cond b (spentWith listed openings) (doneWith listed openings)
+      go true = ap (λ (n : ℕ). spentWith n openings) (C .named)
+      go false = ap (λ (n : ℕ). doneWith n openings) (C .named)

@@ -21,9 +21,11 @@ use Rattle.wavelet.specs.Spans.{halvesOf, spanOf}
 use Rattle.wavelet.proofs.Spans.{span-halves}
 use Rattle.model.specs.Rows.{row}
 use Rattle.model.specs.TopK.{Node, node}
-use Rattle.model.proofs.Sorting.{Every, every-head, every-tail, insertBy, insert-same, same-length}
+use Rattle.model.specs.Lists.{Every}
+use Rattle.model.proofs.Sorting.{every-head, every-tail, insertBy, insert-same, same-length}
 use Rattle.model.proofs.Greedy.Counts.{count-halves}
-use Rattle.model.proofs.Greedy.Nodes.{nodes, allUnder, leafly, first-leaf}
+use Rattle.model.specs.Frontier.{nodes, allUnder}
+use Rattle.model.proofs.Greedy.Nodes.{leafly, first-leaf}
 use Rattle.model.proofs.Greedy.Frontier.{priorNode, halves, ready-apart, ready-open}
 use Rattle.search.specs.declared.Search.{Search}
 use Rattle.greedy.specs.Records.{packed, recordOf, spanIn, lowOf, highOf}

@@ -10,15 +10,14 @@ use Rattle.frontier.specs.Heap.{queue, Heap}
 use Rattle.frontier.proofs.Queue.{length-queue}
 use Rattle.wavelet.specs.Levels.{entriesIn}
 use Rattle.wavelet.proofs.Stored.{length-entriesIn}
-use Rattle.model.specs.Lists.{Within}
+use Rattle.model.specs.Lists.{Within, Every}
 use Rattle.model.specs.TopK.{Node, node}
-use Rattle.model.specs.Search.{Waiting}
+use Rattle.model.specs.Search.{Waiting, prior}
 use Rattle.model.proofs.Lists.{within-part}
 use Rattle.model.proofs.Height.{le-pow-height}
 use Rattle.model.proofs.Sorting.{every-head}
-use Rattle.model.proofs.Greedy.Abstract.{waiting}
-use Rattle.model.proofs.Greedy.Frontier.{Ready}
-use Rattle.model.proofs.Greedy.Waits.{Waits, blocks, blocks-waiting, frontier-length}
+use Rattle.model.specs.Frontier.{waiting, Ready, Waits, blocks}
+use Rattle.model.proofs.Greedy.Waits.{blocks-waiting, frontier-length, first-prior}
 use Rattle.search.specs.declared.Search.{Search}
 use Rattle.greedy.specs.Records.{waitingIn}
 use Rattle.greedy.specs.Moves.{Searchable, rangeOf, countOf, livesIn, recordIn, frontierIn, Kept, First}
@@ -54,6 +53,13 @@ module _ (bytes : List ℕ) (s : Search) (ok : Searchable bytes s) where
         length-map ms (waiting (countOf bytes s)),
         frontier-length (s .levels .height) (s .documents) documents-fit (rangeOf bytes s) range-within f w,
       )
+
+  -- the first of the waiting nodes has the largest count and, among equal counts, the lowest start: it is prior to every other
+  pub kept-first : (work : List ℕ) (m : ℕ) → Kept bytes s work m → (w : Waiting) (rest : List Waiting) → frontierIn s work m ≡ w ∷ rest
+      → Every (prior w) rest
+  kept-first work m kept w rest e =
+      first-prior (countOf bytes s) (livesIn bytes s) (s .levels .height) w rest
+      (subst (Waits (countOf bytes s) (livesIn bytes s) (s .levels .height)) e (kept .waits))
 
   -- ---- from nodes in the queue to a frontier that is kept
 

@@ -8,3 +8,4 @@ pub mod Opens
 pub mod Advances
 pub mod Course
 pub mod Searching
+pub mod Answers

@@ -13,7 +13,8 @@ use Rattle.frontier.proofs.Records.{drop-further}
 use Rattle.wavelet.specs.Levels.{entriesIn}
 use Rattle.model.specs.TopK.{Node, node}
 use Rattle.model.specs.Search.{Waiting, names, opens, findsSpent}
-use Rattle.model.proofs.Greedy.Frontier.{Ready, halves, ready-name, ready-open}
+use Rattle.model.specs.Frontier.{Ready}
+use Rattle.model.proofs.Greedy.Frontier.{halves, ready-name, ready-open}
 use Rattle.model.proofs.Greedy.Moves.{wait-halves}
 use Rattle.search.specs.declared.Search.{Search}
 use Rattle.greedy.specs.declared.Move.the-variants.{Names, Opens, Spent}

@@ -16,11 +16,11 @@ use Rattle.frontier.specs.Priority as queued
 use Rattle.frontier.proofs.Callers.{ahead-by-two, Each, insert-map}
 use Rattle.wavelet.specs.Spans.{spanOf}
 use Rattle.wavelet.proofs.Spans.{span-count, span-ordered}
-use Rattle.model.specs.Lists.{part}
+use Rattle.model.specs.Lists.{part, Every}
 use Rattle.model.specs.TopK.{Node, node, start, countIn}
-use Rattle.model.proofs.Sorting.{Every, every-head, every-tail, insertBy}
-use Rattle.model.proofs.Greedy.Abstract.{waiting}
-use Rattle.model.proofs.Greedy.Nodes.{nodes, allUnder, leafly, first-leaf}
+use Rattle.model.proofs.Sorting.{every-head, every-tail, insertBy}
+use Rattle.model.specs.Frontier.{waiting, nodes, allUnder}
+use Rattle.model.proofs.Greedy.Nodes.{leafly, first-leaf}
 use Rattle.model.proofs.Greedy.Frontier.{priorNode}
 use Rattle.greedy.specs.Records.{packed, recordOf, spanIn, waitingIn}
 use Rattle.greedy.proofs.Tree.{inTree, tree-height}

@@ -11,7 +11,7 @@ use Rattle.model.specs.Rows.{height}
 use Rattle.model.specs.TopK.{Node, node, countIn}
 use Rattle.model.specs.Search as model
 use Rattle.model.specs.Search.{Waiting, names, opens, findsSpent, moveOf, occupied}
-use Rattle.model.proofs.Greedy.Waits.{Waits, blocks}
+use Rattle.model.specs.Frontier.{Waits, blocks}
 use Rattle.search.specs.declared.Search.{Search}
 use Rattle.greedy.specs.declared.Move.{Move}
 use Rattle.greedy.specs.declared.Move.the-variants.{Names, Opens, Spent}

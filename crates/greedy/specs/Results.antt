@@ -8,17 +8,16 @@ use lib.Dec.{ltb}
 use Rattle.frontier.specs.declared.Record.{Record}
 use Rattle.frontier.specs.Heap.{queue, Heap}
 use Rattle.model.specs.Outcome.{answered}
-use Rattle.model.specs.TopK.{doneWith, spentWith, Found, SearchResult}
+use Rattle.model.specs.TopK.{doneWith, spentWith, Found, foundOf, SearchResult}
 use Rattle.model.specs.TopK as model
-use Rattle.model.specs.Search.{Move, names, opens, findsSpent}
+use Rattle.model.specs.Search.{Move, names, opens, findsSpent, answerOf, searchMoves}
 use Rattle.model.specs.Search as search
 use Rattle.search.specs.declared.Search.{Search}
 use Rattle.greedy.specs.declared.Ended.{Ended}
 use Rattle.greedy.specs.declared.Ended.the-variants.{Done, Spent}
 use Rattle.greedy.specs.declared.run.Progress.{Progress}
-use Rattle.search.specs.Sought.{entriesOf, greedyOf}
 use Rattle.greedy.specs.Records.{packed}
-use Rattle.greedy.specs.Moves.{frontierIn, nextMove, Moves}
+use Rattle.greedy.specs.Moves.{rangeOf, frontierIn, nextMove, Moves}
 
 -- ---- how it begins
 
@@ -44,15 +43,15 @@ pub record Begun (s : Search) (w v : List ℕ) (m : ℕ) : Type 0 where
 abbrev pub goesOn : Progress → ℕ → Bool
 goesOn p k = not (p .spent) && (ltb 0 (p .waiting) && ltb (p .listed) k)
 
--- the move that is next
-abbrev pub moveAt : List ℕ → Search → Progress → List ℕ → search.Moved
-moveAt bytes s p work = nextMove bytes s (p .left) (frontierIn s work (p .waiting))
+-- the move that is next, with the allowance that is left
+abbrev pub moveAt : List ℕ → Search → ℕ → Progress → List ℕ → search.Moved
+moveAt bytes s allowance p work = nextMove bytes s (allowance - p .openings) (frontierIn s work (p .waiting))
 
 -- what a move says, where n nodes wait after it
 abbrev pub after : Move → Progress → ℕ → Progress
-after (names d) p n = record { waiting = n; listed = p .listed + 1; left = p .left; spent = false }
-after (opens b) p n = record { waiting = n; listed = p .listed; left = p .left - 1; spent = false }
-after findsSpent p n = record { waiting = n; listed = p .listed; left = p .left; spent = true }
+after (names d) p n = record { waiting = n; listed = p .listed + 1; openings = p .openings; spent = false }
+after (opens b) p n = record { waiting = n; listed = p .listed; openings = p .openings + 1; spent = false }
+after findsSpent p n = record { waiting = n; listed = p .listed; openings = p .openings; spent = true }
 
 -- a document that is named goes into the answer slice as pair i, for which there is room
 abbrev pub roomFor : Move → ℕ → List ℕ → Type 0
@@ -65,10 +64,10 @@ writtenBy (names d) i answers = set (set answers (2 * i) (d .document)) (2 * i +
 writtenBy (opens b) i answers = answers
 writtenBy findsSpent i answers = answers
 
-pub record Advanced (bytes : List ℕ) (s : Search) (p : Progress) (answers work : List ℕ) (r : Progress) (answers' work' : List ℕ) : Type 0 where
-  pub progress : r ≡ after (moveAt bytes s p work .move) p (r .waiting)
-  pub written : answers' ≡ writtenBy (moveAt bytes s p work .move) (p .listed) answers
-  pub moves : Moves bytes s work (moveAt bytes s p work .waiting) work' (r .waiting)
+pub record Advanced (bytes : List ℕ) (s : Search) (allowance : ℕ) (p : Progress) (answers work : List ℕ) (r : Progress) (answers' work' : List ℕ) : Type 0 where
+  pub progress : r ≡ after (moveAt bytes s allowance p work .move) p (r .waiting)
+  pub written : answers' ≡ writtenBy (moveAt bytes s allowance p work .move) (p .listed) answers
+  pub moves : Moves bytes s work (moveAt bytes s allowance p work .waiting) work' (r .waiting)
 
 -- ---- how it ends
 
@@ -77,13 +76,14 @@ abbrev pub endedIs : Ended → model.Ended
 endedIs (Done listed openings) = doneWith listed openings
 endedIs (Spent listed allowance) = spentWith listed allowance
 
-abbrev pub endedBy : Progress → ℕ → model.Ended
-endedBy p allowance = cond (p .spent) (spentWith (p .listed) allowance) (doneWith (p .listed) (allowance - p .left))
+-- the openings counted, whichever way it ended
+abbrev pub endedBy : Progress → model.Ended
+endedBy p = cond (p .spent) (spentWith (p .listed) (p .openings)) (doneWith (p .listed) (p .openings))
 
 -- the answer, with the final content of the lent slices
 abbrev pub resultIs : Ended → List ℕ → List ℕ → SearchResult model.Ended
 resultIs r answers work = record { outcome = answered (endedIs r); answers = answers; work = work }
 
--- what is to be found: as `greedyResult` has it for an accepted question
+-- what is to be found: the answer that is read off the moves. It is the one of `greedyResult` (`model/proofs/Greedy/Theorem`)
 abbrev pub foundIn : List ℕ → Search → ℕ → ℕ → Found model.Ended
-foundIn bytes s k allowance = greedyOf k allowance (entriesOf bytes s)
+foundIn bytes s k allowance = foundOf (s .documents) (answerOf (searchMoves (s .levels .height) (rangeOf bytes s) k allowance))

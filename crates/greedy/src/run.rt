@@ -7,18 +7,18 @@ use search::Search;
 use search::clear;
 use wavelet::Span;
 ghost use mathlib.Core.Path.{_≡_};
-ghost use Prim.Native.Nat.{_+_, _*_, _≤_, _<_, min};
+ghost use Prim.Native.Nat.{_+_, _*_, _^_, _≤_, _<_, min};
 ghost use lib.ListN.{length, set};
 ghost use Rattle.model.specs.Outcome.{answered};
 ghost use Rattle.model.specs.TopK.{foundInto};
 ghost use Rattle.greedy.specs.Moves.{Searchable, Kept};
 ghost use Rattle.greedy.specs.Results.{Small, Begun, goesOn, moveAt, roomFor, Advanced, endedBy, endedIs, resultIs, foundIn};
 
-// How far a search is: the nodes that wait, the pairs listed, the allowance left, and whether it was found spent.
+// How far a search is: the nodes that wait, the pairs listed, the moves that opened a node, and whether the allowance was found spent.
 pub struct Progress {
     pub waiting: usize,
     pub listed: usize,
-    pub left: u32,
+    pub openings: u32,
     pub spent: bool,
 }
 
@@ -68,23 +68,30 @@ fn list(answers: &mut [u32], i: usize, document: u32, count: u32) -> usize
     i + 1
 }
 
-// A move, and what it says: a document goes into the answer slice, an opening uses up one of the allowance.
-fn advance(bytes: &[u8], s: Search, p: Progress, answers: &mut [u32], work: &mut [u32]) -> Progress
+// A move, and what it says: a document goes into the answer slice, an opening is counted.
+fn advance(
+    bytes: &[u8],
+    s: Search,
+    allowance: u32,
+    p: Progress,
+    answers: &mut [u32],
+    work: &mut [u32],
+) -> Progress
     requires { ⌜ Searchable (now bytes) s ⌝ }
-    requires { ⌜ (0 < p .waiting) × Kept (now bytes) s (now work) (p .waiting) ⌝ }
-    requires { ⌜ roomFor (moveAt (now bytes) s p (now work) .move) (p .listed) (now answers) ⌝ }
-    ensures { λ r. ⌜ Advanced (now (bytes .entry)) s p (now (answers .entry)) (now (work .entry)) r (now (answers .exit)) (now (work .exit)) ⌝ }
+    requires { ⌜ (0 < p .waiting) × Kept (now bytes) s (now work) (p .waiting) × (p .openings ≤ allowance) ⌝ }
+    requires { ⌜ roomFor (moveAt (now bytes) s allowance p (now work) .move) (p .listed) (now answers) ⌝ }
+    ensures { λ r. ⌜ Advanced (now (bytes .entry)) s allowance p (now (answers .entry)) (now (work .entry)) r (now (answers .exit)) (now (work .exit)) ⌝ }
 {
-    let moved = step(bytes, s, work, p.waiting, p.left);
+    let moved = step(bytes, s, work, p.waiting, allowance - p.openings);
     let waiting = moved.waiting;
     let listed = p.listed;
-    let left = p.left;
+    let openings = p.openings;
     let made = moved.made;
     match made {
         Move::Names { document, count } => Progress {
             waiting,
             listed: list(answers, listed, document, count),
-            left,
+            openings,
             spent: false,
         },
         Move::Opens {
@@ -93,35 +100,38 @@ fn advance(bytes: &[u8], s: Search, p: Progress, answers: &mut [u32], work: &mut
         } => Progress {
             waiting,
             listed,
-            left: left - 1,
+            openings: openings + 1,
             spent: false,
         },
         Move::Spent => Progress {
             waiting,
             listed,
-            left,
+            openings,
             spent: true,
         },
     }
 }
 
-// 'done' with the openings made, or 'spent' with the allowance.
-fn ended(p: Progress, allowance: u32) -> Ended
-    requires { ⌜ (p .listed < 4294967296) × (p .left ≤ allowance) ⌝ }
-    ensures { λ r. ⌜ endedIs r ≡ endedBy p allowance ⌝ }
+// 'done' or 'spent', with the openings made; where the allowance was found spent they are the allowance.
+fn ended(p: Progress) -> Ended
+    requires { ⌜ p .listed < 2 ^ 32 ⌝ }
+    ensures { λ r. ⌜ endedIs r ≡ endedBy p ⌝ }
 {
     let listed = p.listed as u32;
     if p.spent {
-        Ended::Spent { listed, allowance }
+        Ended::Spent {
+            listed,
+            allowance: p.openings,
+        }
     } else {
         Ended::Done {
             listed,
-            openings: allowance - p.left,
+            openings: p.openings,
         }
     }
 }
 
-// Greedy top-k of a range: the pairs in the answer slice, and the first 4 * N numbers of the work slice 0.
+// Greedy top-k of a range: the answer is the one read off the moves; the pairs in the answer slice, and the first 4 * N numbers of the work slice 0.
 pub fn greedy(
     bytes: &[u8],
     s: Search,
@@ -137,12 +147,12 @@ pub fn greedy(
     let mut p = Progress {
         waiting: begin(s, work),
         listed: 0,
-        left: allowance,
+        openings: 0,
         spent: false,
     };
     while goes_on(p, k) {
-        p = advance(bytes, s, p, answers, work);
+        p = advance(bytes, s, allowance, p, answers, work);
     }
     clear(work, 4 * s.documents);
-    ended(p, allowance)
+    ended(p)
 }

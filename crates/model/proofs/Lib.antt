@@ -1,11 +1,15 @@
 -- Laws of the definitions.
 pub mod Lists
+pub mod Sums
 pub mod Height
 pub mod Wavelet
 pub mod Format
 pub mod Sorting
 pub mod Priority
 pub mod Ranking
+pub mod Pairs
 pub mod Listed
 pub mod Greedy
 pub mod Probing
+pub mod Papers
+pub mod Questions

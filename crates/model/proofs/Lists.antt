@@ -1,17 +1,21 @@
--- Laws of `keep`, `part`, `Within`, and of maps and joins of lists.
+-- Laws of `keep`, `part`, `any`, `Within`, and of maps and joins of lists.
 use Prim.Native.Nat.{ℕ, zero, suc, _+_, _-_, _≤_, _<_, zero-le, suc-le-suc}
 use native.Mathlib.Omega.{arith}
-use native.Mathlib.Nat.{le-of-suc-le-suc, not-suc-le-zero}
+use native.Mathlib.Nat.{le-of-suc-le-suc, not-suc-le-zero, zero-add}
+use native.Mathlib.Decide.{decLe}
 use mathlib.Core.Path.{_≡_, refl, sym, ap, _∙_}
 use mathlib.Core.List.{List, [], _∷_, _++_, map, append-assoc}
-use mathlib.Core.Bool.{Bool, true, false, cond, _&&_}
+use mathlib.Core.Bool.{Bool, true, false, cond, _&&_, _||_}
 use lib.ListN.{length, getD, take, drop, length-append, length-drop, take-append-drop}
 use lib.Seq.{length-take-le, take-append-seam, split-at, getD-append-seam}
+use lib.Dec.{leb, ltb}
+use borrow.Author.Tests.{lt-ltb, le-ltb, le-leb, lt-leb}
 use Rattle.bit_rows.specs.Sequences.{bit, tally}
 use Rattle.bit_rows.specs.Bits.{concat}
-use Rattle.bit_rows.proofs.Tally.{tally-take-add}
+use Rattle.bit_rows.proofs.Tests.{ltb-iff}
+use Rattle.bit_rows.proofs.Tally.{tally-take-add, tally-sum, tally-true}
 pub use Rattle.bit_rows.proofs.Tally.{map-append}
-use Rattle.model.specs.Lists.{keep, part, Within}
+use Rattle.model.specs.Lists.{keep, any, part, Within}
 
 -- ---- maps and joins
 
@@ -151,3 +155,27 @@ tally-within p n h (x ∷ xs) w = omega (arith, ap bit (h x (w .0)), tally-withi
 pub keep-within : (p : ℕ → Bool) (n : ℕ) → ((x : ℕ) → x < n → p x ≡ true) → (xs : List ℕ) → Within n xs → keep p xs ≡ xs
 keep-within p n h [] w = refl
 keep-within p n h (x ∷ xs) w = rw (h x (w .0)) (ap (λ (r : List ℕ). x ∷ r) (keep-within p n h xs (w .1)))
+
+-- ---- at or above a value
+
+any-tally : (p : ℕ → Bool) (xs : List ℕ) → any p xs ≡ ltb 0 (tally p xs)
+any-tally p [] = refl
+any-tally p (x ∷ xs) = go (p x) (any-tally p xs)
+  where
+    go : (c : Bool) → any p xs ≡ ltb 0 (tally p xs) → (c || any p xs) ≡ ltb 0 (bit c + tally p xs)
+    go true ih = sym (lt-ltb 0 (1 + tally p xs) (omega arith))
+    go false ih = rw zero-add ih
+
+-- those below v and those at or above it are all
+pub tally-below-above : (v : ℕ) (xs : List ℕ) → tally (λ x. ltb x v) xs + tally (leb v) xs ≡ length xs
+tally-below-above v xs = sym (tally-sum (λ x. true) (λ x. ltb x v) (leb v) (λ x. go x (decLe v x)) xs) ∙ tally-true xs
+  where
+    go : (x : ℕ) → Dec (v ≤ x) → 1 ≡ bit (ltb x v) + bit (leb v x)
+    go x (yes l) = rw (le-ltb x v l, le-leb v x l)
+    go x (no l) = let m : x < v = omega arith in rw (lt-ltb x v m, lt-leb v x m)
+
+-- some entry is v or more exactly where not all are below v
+pub any-leb : (v : ℕ) (xs : List ℕ) → any (leb v) xs ≡ ltb (tally (λ x. ltb x v) xs) (length xs)
+any-leb v xs =
+    any-tally (leb v) xs
+    ∙ ltb-iff 0 (tally (leb v) xs) (tally (λ x. ltb x v) xs) (length xs) (λ l. omega (arith, tally-below-above v xs)) (λ l. omega (arith, tally-below-above v xs))

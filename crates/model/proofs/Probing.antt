@@ -1,12 +1,6 @@
 -- Top-k by quantile probing: the method, its theorem, and the invariants and steps with which code that follows it is proved.
-pub mod Method
 pub mod Insertion
 pub mod Held
 pub mod Probed
 pub mod Rounds
 pub mod Theorem
-pub mod Slices
-pub mod Places
-pub mod Shifting
-pub mod Entering
-pub mod Steps

@@ -1,5 +1,4 @@
 -- Laws of the rows of a wavelet tree, for any height.
-pub mod Walk
 pub mod Groups
 pub mod Step
 pub mod Rows
@@ -8,9 +7,7 @@ pub mod Split
 pub mod Decode
 pub mod Counts
 pub mod Descend
-pub mod Access
 pub mod Rank
-pub mod CountBelow
 pub mod Sorted
 pub mod Quantile
 pub mod Place

@@ -1,9 +1,11 @@
 -- Plain list functions. Document 01, "The shelf": the entries of a range; the rest is common ground.
 use Prim.Native.Nat.{ℕ, _-_, _<_}
+use mathlib.Core.Path.{_≡_}
 use mathlib.Core.List.{List, [], _∷_, _++_}
-use mathlib.Core.Bool.{Bool, false, cond, _||_}
+use mathlib.Core.Bool.{Bool, false, not, cond, _||_}
 use lib.ListN.{length, take, drop}
 use lib.Dec.{leb}
+use Rattle.bit_rows.specs.Sequences.{tally}
 
 module _ {A : Type 0} where
   -- the elements that pass a test, in their order
@@ -15,6 +17,15 @@ module _ {A : Type 0} where
   abbrev pub any : (A → Bool) → List A → Bool
   any p [] = false
   any p (x ∷ xs) = p x || any p xs
+
+  -- every element passes: told by a count, so that it carries over to lists of the same elements
+  abbrev pub Every : (A → Bool) → List A → Type 0
+  Every p xs = tally (λ y. not (p y)) xs ≡ 0
+
+  -- each element is ahead of all that follow it
+  abbrev pub Sorted : (A → A → Bool) → List A → Type 0
+  Sorted r [] = Unit {0}
+  Sorted r (x ∷ xs) = Every (r x) xs × Sorted r xs
 
   -- a slice whose front is written and whose rest is untouched
   abbrev pub overwrite : List A → List A → List A

@@ -1,5 +1,5 @@
 -- The questions over the plain list, each with its whole result. Document 01, "The questions" and their refusals 10 to 12.
-use Prim.Native.Nat.{ℕ, suc, _*_, _/_}
+use Prim.Native.Nat.{ℕ, suc, _*_, _/_, _+_}
 use mathlib.Core.List.{List, [], _∷_, map}
 use mathlib.Core.Bool.{Bool, cond, _||_}
 use lib.ListN.{length, getD, take}
@@ -84,10 +84,20 @@ pub record Pair : Type 0 where
   pub document : ℕ
   pub count : ℕ
 
+abbrev pub pair : ℕ → ℕ → Pair
+pair d c = record { document = d; count = c }
+
 -- pairs as they go into a slice
 abbrev pub flat : List Pair → List ℕ
 flat [] = []
 flat (p ∷ ps) = p .document ∷ p .count ∷ flat ps
+
+-- pair i of a slice, and its first n pairs
+abbrev pub pairAt : List ℕ → ℕ → Pair
+pairAt out i = pair (getD out (2 * i) 0) (getD out (2 * i + 1) 0)
+
+abbrev pub pairsIn : List ℕ → ℕ → List Pair
+pairsIn out n = map (pairAt out) (below n)
 
 -- how many pairs, and the final content of the answer slice
 pub record PairsResult : Type 0 where

@@ -35,6 +35,10 @@ innerNodes h = concat (map (λ j. map (node (h - j)) (below (2 ^ j))) (below h))
 abbrev pub ahead : Pair → Pair → Bool
 ahead p q = ltb (q .count) (p .count) || eqb (q .count) (p .count) && ltb (p .document) (q .document)
 
+-- p stands ahead of q, or is level with it
+abbrev pub aheadPair : Pair → Pair → Bool
+aheadPair p q = ltb (q .count) (p .count) || eqb (q .count) (p .count) && leb (p .document) (q .document)
+
 abbrev pub insertPair : Pair → List Pair → List Pair
 insertPair p [] = p ∷ []
 insertPair p (q ∷ qs) = cond (ahead p q) (p ∷ q ∷ qs) (q ∷ insertPair p qs)
@@ -134,13 +138,15 @@ searchResult bytes range k answers work search =
     refuse 12 (ltb (length answers) (2 * min k (lib .documents)))
     (refuse 13 (ltb (length work) (4 * lib .documents)) (answered (search (lib .documents) xs))))))
 
+-- what is found in a library with N documents, by the answer
+abbrev pub foundOf : ℕ → Answer → Found Ended
+foundOf N answer = record { documents = N; pairs = pairsOf answer; answer = endedOf answer }
+
 -- greedy top-k (shortlist)
 abbrev pub greedyResult : List ℕ → Range → ℕ → ℕ → List ℕ → List ℕ → SearchResult Ended
 greedyResult bytes range k allowance answers work =
     searchResult bytes range k answers work
-    (λ N xs.
-    let answer = topK (height N) N xs k allowance in
-    record { documents = N; pairs = pairsOf answer; answer = endedOf answer })
+    (λ N xs. foundOf N (topK (height N) N xs k allowance))
 
 -- probing top-k (probing shortlist): the full list, no allowance; it answers how many pairs
 abbrev pub probingResult : List ℕ → Range → ℕ → List ℕ → List ℕ → SearchResult ℕ

@@ -1,2 +1,3 @@
 -- Laws of the range that is probed; those of probing itself are model's.
+pub mod Laws
 pub mod Ranges

@@ -7,12 +7,12 @@ use lib.ListN.{length}
 use lib.Dec.{eqb}
 use Rattle.bit_rows.specs.Sequences.{occurrences}
 use Rattle.bit_rows.proofs.Tally.{tally-le-length}
+use Rattle.model.proofs.Lists.{length-part, within-part}
 use Rattle.wavelet.specs.Levels.{entriesIn}
 use Rattle.wavelet.proofs.Stored.{length-entriesIn}
-use Rattle.model.proofs.Lists.{length-part, within-part}
-use Rattle.model.proofs.Probing.Steps.{Lent}
 use Rattle.search.specs.declared.Search.{Search}
 use Rattle.search.specs.Searchable.{Searchable, rangeOf}
+use Rattle.probing.specs.Slices.{Lent}
 
 module _ {bytes : List ℕ} {s : Search} (q : Searchable bytes s) where
   pub length-range : length (rangeOf bytes s) ≡ s .b - s .a

@@ -1,2 +1,3 @@
 -- What the contracts of probing cite, beside model.
+pub mod Slices
 pub mod Full

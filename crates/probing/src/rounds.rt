@@ -2,9 +2,9 @@
 ghost use mathlib.Core.Path.{_≡_};
 ghost use Prim.Native.Nat.{_*_, _^_, _≤_, _<_};
 ghost use lib.ListN.{length};
-ghost use Rattle.model.proofs.Probing.Rounds.{goesOn};
-ghost use Rattle.model.proofs.Probing.Slices.{pairsIn};
-ghost use Rattle.model.proofs.Probing.Steps.{Power};
+ghost use Rattle.model.specs.Probing.{goesOn};
+ghost use Rattle.model.specs.Queries.{pairsIn};
+ghost use Rattle.probing.specs.Slices.{Power};
 
 // The largest power of two up to m, and 1 for 0.
 pub fn first_step(m: usize) -> usize

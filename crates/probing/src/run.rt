@@ -11,13 +11,10 @@ ghost use Prim.Native.Nat.{_-_, _*_, _^_, _≤_, _<_, min};
 ghost use lib.ListN.{length, drop};
 ghost use Rattle.model.specs.Lists.{overwrite};
 ghost use Rattle.model.specs.Outcome.{answered};
-ghost use Rattle.model.specs.Queries.{flat};
+ghost use Rattle.model.specs.Queries.{flat, pairsIn};
 ghost use Rattle.model.specs.TopK.{fullList, foundInto};
-ghost use Rattle.model.proofs.Probing.Method.{unseen, probe};
-ghost use Rattle.model.proofs.Probing.Held.{Held};
-ghost use Rattle.model.proofs.Probing.Rounds.{Swept};
-ghost use Rattle.model.proofs.Probing.Slices.{pairsIn, marked};
-ghost use Rattle.model.proofs.Probing.Steps.{Lent, Kept, stateIn};
+ghost use Rattle.model.specs.Probing.{unseen, probe, Held, Swept};
+ghost use Rattle.probing.specs.Slices.{marked, Lent, Kept, stateIn};
 ghost use Rattle.search.specs.Searchable.{Searchable, rangeOf};
 ghost use Rattle.probing.specs.Full.{listedIs, fullIn};
 

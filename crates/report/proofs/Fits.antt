@@ -15,7 +15,7 @@ use Rattle.bit_rows.specs.Sequences.{all, upFrom, below}
 use Rattle.bit_rows.specs.Bits.{concat, samplesRight, unusedClear, numberAt}
 use Rattle.bit_rows.proofs.Tests.{look, and-both, both-and}
 use Rattle.bit_rows.proofs.Tally.{tally-le, tally-le-length, tally-map, length-upFrom}
-use Rattle.model.specs.Lists.{any, part, overwrite}
+use Rattle.model.specs.Lists.{any, part, overwrite, Every}
 use Rattle.model.specs.Outcome.{Outcome, answered, refused, refuse, andThen}
 use Rattle.model.specs.Rows.{height}
 use Rattle.model.specs.Format.{Library, Sizes, withinLimits, rowCount, archiveLength}
@@ -24,7 +24,7 @@ use Rattle.model.specs.Queries.{Pair, Bounds, termStart, pairOf, present, listi
 use Rattle.model.specs.TopK.{node, innerNodes, needed, last, ranking, fullList, need, covered, Answer, done, spent, topK}
 use Rattle.model.proofs.Height.{height-le-12}
 use Rattle.model.proofs.Lists.{tally-keep}
-use Rattle.model.proofs.Sorting.{Every, every-head, every-tail, every-cons, every-take}
+use Rattle.model.proofs.Sorting.{every-head, every-tail, every-cons, every-take}
 use Rattle.model.proofs.Ranking.{ranking-same}
 use Rattle.archive.specs.Layout.{layoutOf, Opened}
 use Rattle.archive.proofs.Opened.{limits, documents-are, entries-size}

@@ -13,10 +13,9 @@ use Rattle.model.specs.Outcome.{Outcome, answered, refused, refuse, andThen}
 use Rattle.model.specs.Rows.{height}
 use Rattle.model.specs.Format.{Library, Sizes}
 use Rattle.model.specs.Opening.{opening, contents}
-use Rattle.model.specs.Queries.{Pair, flat, ofTerms, inRange}
+use Rattle.model.specs.Queries.{Pair, flat, ofTerms, inRange, pairAt, pairsIn}
 use Rattle.model.specs.TopK.{Answer, done, spent, topK, Ended, endedOf, pairsOf, SearchResult, foundInto, greedyResult}
 use Rattle.model.proofs.Format.WriteBack.{accepted}
-use Rattle.model.proofs.Probing.Slices.{pairAt, pairsIn}
 use Rattle.model.proofs.Listed.{length-topK}
 use Rattle.report.specs.Report.{linesOf, lastLine, doneWord, spentWord, shortlistOf, textOf}
 use Rattle.report.specs.Types.{textIn, Listed}

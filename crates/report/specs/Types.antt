@@ -5,7 +5,7 @@ use mathlib.Core.List.{List, [], _∷_, _++_}
 use lib.ListN.{length, set}
 use Rattle.model.specs.Outcome.{Outcome, answered, refused}
 use Rattle.model.specs.TopK.{Ended, doneWith, spentWith}
-use Rattle.model.proofs.Probing.Slices.{pairsIn}
+use Rattle.model.specs.Queries.{pairsIn}
 use Rattle.report.specs.Report.{linesOf, lastLine, doneWord, spentWord, refusedWord}
 
 abbrev pub typed : List ℕ → ℕ → List ℕ → List ℕ

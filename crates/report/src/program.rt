@@ -7,7 +7,7 @@ use top_k::greedy_terms;
 ghost use mathlib.Core.Path.{_≡_};
 ghost use Prim.Native.Nat.{_≤_};
 ghost use lib.ListN.{length};
-ghost use Rattle.model.proofs.Probing.Slices.{pairsIn};
+ghost use Rattle.model.specs.Queries.{pairsIn};
 ghost use Rattle.top_k.specs.Asked.{topKOf};
 ghost use Rattle.report.specs.Report.{linesOf, answerTo, textOf, report, shown, written};
 ghost use Rattle.io.specs.Counts.{Counts};

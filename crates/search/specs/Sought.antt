@@ -3,7 +3,7 @@ use Prim.Native.Nat.{ℕ}
 use mathlib.Core.List.{List}
 use lib.ListN.{length}
 use Rattle.model.specs.Rows.{height}
-use Rattle.model.specs.TopK.{Ended, Found, topK, endedOf, pairsOf, fullList}
+use Rattle.model.specs.TopK.{Ended, Found, topK, foundOf, fullList}
 use Rattle.search.specs.declared.Search.{Search}
 use Rattle.search.specs.Searchable.{rangeOf}
 
@@ -18,9 +18,7 @@ entriesOf bytes s = record { documents = s .documents; entries = rangeOf bytes s
 
 -- what is found, as `greedyResult` and `probingResult` have it
 abbrev pub greedyOf : ℕ → ℕ → Asked → Found Ended
-greedyOf k allowance x =
-    let answer = topK (height (x .documents)) (x .documents) (x .entries) k allowance in
-    record { documents = x .documents; pairs = pairsOf answer; answer = endedOf answer }
+greedyOf k allowance x = foundOf (x .documents) (topK (height (x .documents)) (x .documents) (x .entries) k allowance)
 
 abbrev pub probingOf : ℕ → Asked → Found ℕ
 probingOf k x =

@@ -15,13 +15,13 @@ use Rattle.bit_rows.specs.Sequences.{tally, rank}
 use Rattle.bit_rows.proofs.Tally.{tally-le-length}
 use Rattle.model.specs.Lists.{part}
 use Rattle.model.specs.Rows.{row}
+use Rattle.model.specs.Walk.{key, pos}
 use Rattle.model.proofs.Lists.{within-at, length-part, tally-within, within-part}
-use Rattle.model.proofs.Wavelet.Walk.{key, pos}
 use Rattle.model.proofs.Wavelet.Rows.{row-length, row-pos-lt, row-bit, key-half, key-lt, key-root, key-leaf, tally-before-root, count-start, count-middle}
+use Rattle.model.proofs.Wavelet.Rank.{tally-leaf}
 use Rattle.wavelet.specs.declared.Span.{Span}
 use Rattle.wavelet.specs.declared.Halves.{Halves}
 use Rattle.wavelet.specs.Spans.{Ordered, halvesOf, halfOf, spanOf, spanAt}
-use Rattle.model.proofs.Wavelet.Rank.{tally-leaf}
 use Rattle.wavelet.specs.declared.Levels.{Levels}
 use Rattle.wavelet.specs.declared.Place.{Place}
 use Rattle.wavelet.specs.Levels.{entriesIn, levelOf}

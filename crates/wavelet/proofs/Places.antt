@@ -15,7 +15,7 @@ use Rattle.bit_rows.specs.Sequences.{occurrences, rank, select}
 use Rattle.bit_rows.specs.Rows.{foundAt}
 use Rattle.bit_rows.specs.declared.Found.{Found}
 use Rattle.bit_rows.specs.declared.Found.the-variants.{At, Nothing}
-use Rattle.model.proofs.Wavelet.Walk.{left, right, rankFrom, selectFrom}
+use Rattle.model.specs.Walk.{left, right, rankFrom, selectFrom}
 use Rattle.model.proofs.Wavelet.Counts.{ones-step}
 use Rattle.model.proofs.Wavelet.Rank.{rank-walk}
 use Rattle.model.proofs.Wavelet.Rows.{row-length, row-below}

@@ -8,12 +8,12 @@ use mathlib.Core.List.{List}
 use mathlib.Core.Bool.{Bool, true, false, cond}
 use lib.Dec.{leb, ltb}
 use lib.Pow.{pow-mono}
-use mir.Val.{boolByte}
 use borrow.Author.Tests.{lt-ltb, le-ltb, leb-true, leb-false}
+use mir.Val.{boolByte}
 use Rattle.model.specs.Lists.{part}
+use Rattle.model.specs.Walk.{quantileFrom}
 use Rattle.model.proofs.Wavelet.Rows.{rows-of}
 use Rattle.model.proofs.Wavelet.Quantile.{quantile-walk}
-use Rattle.model.proofs.Wavelet.Walk.{quantileFrom}
 use Rattle.wavelet.specs.declared.Levels.{Levels}
 use Rattle.wavelet.specs.declared.Span.{Span}
 use Rattle.wavelet.specs.declared.Halves.{Halves}

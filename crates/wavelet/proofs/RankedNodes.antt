@@ -5,7 +5,7 @@ use native.Mathlib.Omega.{arith}
 use mathlib.Core.Path.{_≡_, ap}
 use mathlib.Core.List.{List}
 use Rattle.bit_rows.specs.Sequences.{rank}
-use Rattle.model.proofs.Wavelet.Walk.{left}
+use Rattle.model.specs.Walk.{left}
 use Rattle.model.proofs.Wavelet.Counts.{ones-mono, ones-step, left-le}
 use Rattle.wavelet.specs.declared.Ranked.{Ranked}
 use Rattle.wavelet.specs.declared.Halves.{Halves}

@@ -9,7 +9,7 @@ use Rattle.bit_rows.specs.Sequences.{rank}
 use Rattle.model.specs.Lists.{part, Within}
 use Rattle.model.specs.Rows.{row}
 use Rattle.model.specs.TopK.{node, countIn}
-use Rattle.model.proofs.Wavelet.Walk.{zerosIn, left, key}
+use Rattle.model.specs.Walk.{zerosIn, left, key}
 use Rattle.model.proofs.Wavelet.Rows.{pos-root, row-left, row-right, row-start, row-middle, row-end}
 use Rattle.model.proofs.Wavelet.Counts.{node-count, pos-mono, pos-le-length, ones-mono, ones-step, left-mono, left-le, left-le-right, right-mono, right-le}
 use Rattle.wavelet.specs.declared.Span.{Span}

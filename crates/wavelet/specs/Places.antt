@@ -6,7 +6,7 @@ use lib.Dec.{eqb, ltb}
 use Rattle.bit_rows.specs.Sequences.{rank, select}
 use Rattle.bit_rows.specs.declared.Found.{Found}
 use Rattle.bit_rows.specs.declared.Found.the-variants.{At, Nothing}
-use Rattle.model.proofs.Wavelet.Walk.{rankFrom, selectFrom}
+use Rattle.model.specs.Walk.{rankFrom, selectFrom}
 
 -- the place that a search among n bits answers; n where it found nothing
 abbrev pub placeOr : Found → ℕ → ℕ

@@ -3,7 +3,7 @@ use Prim.Native.Nat.{ℕ, _-_}
 use mathlib.Core.List.{List}
 use Rattle.bit_rows.specs.Sequences.{occurrences}
 use Rattle.model.specs.Queries.{quantile}
-use Rattle.model.proofs.Wavelet.Walk.{quantileFrom}
+use Rattle.model.specs.Walk.{quantileFrom}
 use Rattle.wavelet.specs.declared.Levels.{Levels}
 use Rattle.wavelet.specs.declared.Span.{Span}
 use Rattle.wavelet.specs.declared.Counted.{Counted}

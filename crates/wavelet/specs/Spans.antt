@@ -5,7 +5,7 @@ use mathlib.Core.Bool.{cond}
 use lib.ListN.{length}
 use lib.Dec.{eqb}
 use Rattle.bit_rows.specs.Sequences.{rank}
-use Rattle.model.proofs.Wavelet.Walk.{left, right, pos}
+use Rattle.model.specs.Walk.{left, right, pos}
 use Rattle.wavelet.specs.declared.Span.{Span}
 use Rattle.wavelet.specs.declared.Halves.{Halves}
 use Rattle.wavelet.specs.declared.Place.{Place}

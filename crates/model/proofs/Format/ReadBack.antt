@@ -20,15 +20,11 @@ use Rattle.model.specs.Outcome.{answered, refuse}
 use Rattle.model.specs.Rows.{height, row}
 use Rattle.model.specs.Format.{Library, Sizes, sizesOf, withinLimits, tableOffset, archiveLength, pairs, header, tableFrom, encode}
 use Rattle.model.specs.Opening.{sizesAt, startAt, lengthAt, samplesAt, rowAt, entriesAt, contents, pairsHold, tableHolds, opening}
+use Rattle.model.proofs.Sums.{sum-take-suc}
 use Rattle.model.proofs.Wavelet.Rows.{row-below}
 use Rattle.model.proofs.Wavelet.Decode.{decode-of}
 use Rattle.model.proofs.Format.Valid.{Valid, of-limits, any-within}
 use Rattle.model.proofs.Format.Layout.{table-start, table-length, entries-within, row-size, length-encode, samples-at, row-at, number-at}
-
-pub sum-take-suc : (ls : List ℕ) (t : ℕ) → t < length ls → sum (take (suc t) ls) ≡ sum (take t ls) + getD ls t 0
-sum-take-suc [] t l = absurd (omega arith)
-sum-take-suc (x ∷ ls) zero l = omega arith
-sum-take-suc (x ∷ ls) (suc t) l = omega (arith, sum-take-suc ls t (omega arith))
 
 -- bits are below 2 wherever one looks
 bits-small : (bits : List ℕ) → Within 2 bits → (i : ℕ) → getD bits i 0 < 2

@@ -10,7 +10,6 @@ use Rattle.bit_rows.specs.Sequences.{tally, below}
 use Rattle.model.specs.Lists.{keep}
 use Rattle.model.specs.Queries.{Pair}
 use Rattle.model.specs.TopK.{Node, node, start, innerNodes, ranking, last, Answer, done, spent}
-use Rattle.model.specs.Search.{Waiting}
 
 -- the count never rises from a node to its halves; a node lives exactly where a half of it does. A node may live with count 0
 pub record Counted (count : Node → ℕ) (lives : Node → Bool) : Type 0 where
@@ -42,10 +41,6 @@ module _ (need : List Pair → ℕ) (allowance : ℕ) (full : List Pair) where
   -- the whole list if the allowance covers its need, else the longest front part that it covers
   abbrev pub answerBy : Answer
   answerBy = cond (leb (need full) allowance) (done full (need full)) (spent (coveredBy (length full)) allowance)
-
--- a node waits with its count
-abbrev pub waiting : (Node → ℕ) → Node → Waiting
-waiting count n = record { block = n; count = count n }
 
 -- a document with the count of its leaf
 abbrev pub leafPair : (Node → ℕ) → ℕ → Pair

@@ -12,12 +12,12 @@ use borrow.Author.Tests.{ltb-true, ltb-false, lt-ltb, le-ltb, eqb-true, eqb-fals
 use Rattle.bit_rows.specs.Sequences.{bit, below, occurrences}
 use Rattle.bit_rows.proofs.Tests.{look, eqb-swap}
 use Rattle.bit_rows.proofs.Tally.{tally-same, tally-sum, tally-none}
-use Rattle.model.specs.Lists.{keep, Within}
+use Rattle.model.specs.Lists.{keep, Within, Every}
 use Rattle.model.specs.Queries.{Pair, pairOf, present, listing}
 use Rattle.model.specs.TopK.{Node, node, countIn, innerNodes, ranking, fullList, needed, needOf, last, need, covered, done, spent, topK}
 use Rattle.model.specs.Search.{Waiting, begin, occupied, wait}
 use Rattle.model.proofs.Lists.{keep-map, tally-keep, tally-within}
-use Rattle.model.proofs.Sorting.{Every, every-take}
+use Rattle.model.proofs.Sorting.{every-take}
 use Rattle.model.proofs.Ranking.{ranking-same, every-last}
 use Rattle.model.proofs.Greedy.Abstract.{Counted, counted-of-sum, needBy, coveredBy, answerBy, rankingOf, neededFor, needFor, topKOf}
 use Rattle.model.proofs.Greedy.Answers.{answerBy-same}

@@ -12,10 +12,12 @@ use Rattle.bit_rows.proofs.Tests.{look}
 use Rattle.bit_rows.proofs.Tally.{tally-append, tally-same}
 use Rattle.model.specs.TopK.{Node, node, start}
 use Rattle.model.specs.Search.{prior}
-use Rattle.model.proofs.Sorting.{Every, every-tail, every-cons, Sorted, insertBy, insert-same, insert-sorted}
+use Rattle.model.specs.Lists.{Every, Sorted}
+use Rattle.model.specs.Frontier.{waiting, nodes, under, allUnder, place, aheadNode, Ready}
+use Rattle.model.proofs.Sorting.{every-tail, every-cons, insertBy, insert-same, insert-sorted}
 use Rattle.model.proofs.Priority.{Ahead, true-ahead, prior-true, prior-false}
-use Rattle.model.proofs.Greedy.Abstract.{Counted, waiting}
-use Rattle.model.proofs.Greedy.Nodes.{nodes, under, allUnder, living, leafly, leaf-once, first-leaf, place, start-le-place, place-le-start, aheadNode, node-trans, dead-under}
+use Rattle.model.proofs.Greedy.Abstract.{Counted}
+use Rattle.model.proofs.Greedy.Nodes.{living, leafly, leaf-once, first-leaf, start-le-place, place-le-start, node-trans, dead-under}
 
 -- ---- how nodes come to wait
 
@@ -140,12 +142,6 @@ module _ (count : Node → ℕ) (lives : Node → Bool) where
           )
 
 -- ---- what holds from move to move
-
--- the waiting nodes of a tree of height h live and stand in order, and no more is under them than in the tree
-pub record Ready (count : Node → ℕ) (lives : Node → Bool) (h : ℕ) (ms : List Node) : Type 0 where
-  pub alive : Every lives ms
-  pub sorted : Sorted (aheadNode count) ms
-  pub inside : (p : Node → Bool) → tally p (allUnder ms) ≤ tally p (nodes h 0)
 
 module _ (count : Node → ℕ) (lives : Node → Bool) (h : ℕ) where
   pub ready-root : Ready count lives h (join count lives (node h 0) [])

@@ -14,12 +14,14 @@ use Rattle.bit_rows.proofs.Tests.{look, eqb-swap}
 use Rattle.bit_rows.proofs.Tally.{tally-le, tally-same, tally-append, upFrom-append}
 use Rattle.model.specs.Queries.{Pair}
 use Rattle.model.specs.TopK.{Node, node, start, innerNodes, last}
+use Rattle.model.specs.Lists.{Every, Sorted}
+use Rattle.model.specs.Frontier.{nodes, place, aheadNode, aheadOf}
 use Rattle.model.proofs.Lists.{map-append}
-use Rattle.model.proofs.Sorting.{Every, every-head, every-tail, every-cons, every-take, Sorted}
-use Rattle.model.proofs.Priority.{aheadOf, Ahead, ahead-true, true-ahead}
+use Rattle.model.proofs.Sorting.{every-head, every-tail, every-cons, every-take}
+use Rattle.model.proofs.Priority.{Ahead, ahead-true, true-ahead}
 use Rattle.model.proofs.Ranking.{every-last}
 use Rattle.model.proofs.Greedy.Abstract.{leafPair, needBy, neededFor, needFor}
-use Rattle.model.proofs.Greedy.Nodes.{nodes, living, place, aheadNode}
+use Rattle.model.proofs.Greedy.Nodes.{living}
 use Rattle.model.proofs.Greedy.Moves.{tollOf, pairsIn}
 
 -- ---- the inner nodes, level by level

@@ -13,22 +13,13 @@ use Rattle.bit_rows.specs.Sequences.{bit, tally, upFrom, below}
 use Rattle.bit_rows.proofs.Tests.{look, or-cases, or-neither}
 use Rattle.bit_rows.proofs.Tally.{tally-append, tally-same, upFrom-append}
 use Rattle.model.specs.TopK.{Node, node, start}
-use Rattle.model.proofs.Sorting.{Every, every-head, every-tail, every-cons, every-append}
-use Rattle.model.proofs.Priority.{aheadOf, ahead-true, true-ahead, ahead-trans, ahead-of-le}
+use Rattle.model.specs.Lists.{Every}
+use Rattle.model.specs.Frontier.{nodes, allUnder, place, aheadNode, under}
+use Rattle.model.proofs.Sorting.{every-head, every-tail, every-cons, every-append}
+use Rattle.model.proofs.Priority.{ahead-true, true-ahead, ahead-trans, ahead-of-le}
 use Rattle.model.proofs.Greedy.Abstract.{Counted}
 
 -- ---- the nodes under a node, itself first
-
-abbrev pub nodes : ℕ → ℕ → List Node
-nodes zero q = node zero q ∷ []
-nodes (suc l) q = node (suc l) q ∷ (nodes l (2 * q) ++ nodes l (2 * q + 1))
-
-abbrev pub under : Node → List Node
-under (node l q) = nodes l q
-
-abbrev pub allUnder : List Node → List Node
-allUnder [] = []
-allUnder (n ∷ ns) = under n ++ allUnder ns
 
 pub length-nodes : (l q : ℕ) → suc (length (nodes l q)) ≡ 2 ^ suc l
 length-nodes zero q = refl
@@ -104,12 +95,10 @@ first-leaf (suc l) q =
     let e : q * 2 ^ suc l ≡ 2 * q * 2 ^ l = simp (pow-suc 2) (omega arith) in
     rw e (omega (arith, first-leaf l (2 * q), tally-append (leafly (eqb (2 * q * 2 ^ l))) (nodes l (2 * q)) (nodes l (2 * q + 1))))
 
--- ---- the order
+pub start-leaf : (n : Node) → 1 ≤ tally (leafly (eqb (start n))) (under n)
+start-leaf (node l q) = first-leaf l q
 
--- twice the start, and one more at a leaf: a leaf stands behind the wider nodes that start where it does
-abbrev pub place : Node → ℕ
-place (node zero q) = 2 * (q * 2 ^ 0) + 1
-place (node (suc l) q) = 2 * (q * 2 ^ suc l)
+-- ---- the order
 
 pub start-le-place : (n : Node) → 2 * start n ≤ place n
 start-le-place (node zero q) = omega arith
@@ -126,10 +115,6 @@ place-lower (suc l) q = simp (pow-suc 2) (omega arith)
 place-upper : (l q : ℕ) → place (node (suc l) q) ≤ place (node l (2 * q + 1))
 place-upper zero q = omega arith
 place-upper (suc l) q = simp (pow-suc 2) (omega arith)
-
--- n stands ahead of m, or is level with it
-abbrev pub aheadNode : (Node → ℕ) → Node → Node → Bool
-aheadNode count n m = aheadOf (count n) (place n) (count m) (place m)
 
 pub node-trans : (count : Node → ℕ) (n m o : Node) → aheadNode count n m ≡ true → aheadNode count m o ≡ true → aheadNode count n o ≡ true
 node-trans count n m o e f =

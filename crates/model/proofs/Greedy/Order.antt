@@ -8,15 +8,16 @@ use mathlib.Core.Bool.{Bool, true, false}
 use lib.ListN.{take}
 use Rattle.bit_rows.specs.Sequences.{tally, below}
 use Rattle.bit_rows.proofs.Tally.{tally-map, tally-le-length}
-use Rattle.model.specs.Lists.{keep}
+use Rattle.model.specs.Lists.{keep, Sorted}
 use Rattle.model.specs.Queries.{Pair}
-use Rattle.model.specs.TopK.{Node, node}
+use Rattle.model.specs.TopK.{Node, node, aheadPair}
+use Rattle.model.specs.Frontier.{nodes, place, aheadNode}
 use Rattle.model.proofs.Lists.{tally-keep}
-use Rattle.model.proofs.Sorting.{Sorted, sorted-unique}
+use Rattle.model.proofs.Sorting.{sorted-unique}
 use Rattle.model.proofs.Priority.{Ahead, ahead-true, true-ahead}
-use Rattle.model.proofs.Ranking.{aheadPair, pair-refl, pair-antisymm, ranking-sorted, ranking-same}
+use Rattle.model.proofs.Ranking.{pair-refl, pair-antisymm, ranking-sorted, ranking-same}
 use Rattle.model.proofs.Greedy.Abstract.{Counted, leafPair, rankingOf, needBy, needFor}
-use Rattle.model.proofs.Greedy.Nodes.{nodes, length-nodes, living, leafly, documents, tally-documents, living-documents, place, aheadNode}
+use Rattle.model.proofs.Greedy.Nodes.{length-nodes, living, leafly, documents, tally-documents, living-documents}
 use Rattle.model.proofs.Greedy.Frontier.{join, ready-root, join-living}
 use Rattle.model.proofs.Greedy.Visits.{visits, size, Ends, visits-same, visits-sorted, visits-ends}
 use Rattle.model.proofs.Greedy.Moves.{tollOf, pairsIn}

@@ -9,11 +9,13 @@ use Rattle.bit_rows.specs.Sequences.{tally}
 use Rattle.bit_rows.proofs.Tests.{and-both, both-and}
 use Rattle.bit_rows.proofs.Tally.{tally-append, tally-le, tally-true}
 use Rattle.model.specs.TopK.{Node, node}
-use Rattle.model.proofs.Sorting.{Every, every-head, Sorted}
+use Rattle.model.specs.Lists.{Every, Sorted}
+use Rattle.model.specs.Frontier.{nodes, allUnder, place, aheadNode, Ready}
+use Rattle.model.proofs.Sorting.{every-head}
 use Rattle.model.proofs.Priority.{true-ahead, ahead-refl}
 use Rattle.model.proofs.Greedy.Abstract.{Counted}
-use Rattle.model.proofs.Greedy.Nodes.{nodes, allUnder, living, leafly, documents, tally-documents, place, aheadNode, ahead-under, ahead-all-under, leaf-under}
-use Rattle.model.proofs.Greedy.Frontier.{halves, halves-le, Ready, ready-name, ready-open, living-leaf, living-open}
+use Rattle.model.proofs.Greedy.Nodes.{living, leafly, documents, tally-documents, ahead-under, ahead-all-under, leaf-under}
+use Rattle.model.proofs.Greedy.Frontier.{halves, halves-le, ready-name, ready-open, living-leaf, living-open}
 
 -- at most f visits: each takes the first waiting node, and the halves of an inner node then wait
 abbrev pub visits : (Node → ℕ) → (Node → Bool) → ℕ → List Node → List Node

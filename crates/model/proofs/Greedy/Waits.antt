@@ -1,30 +1,27 @@
 -- For code that keeps a frontier: what holds of it from move to move, over any count, and how long it can be.
-use Prim.Native.Nat.{ℕ, zero, suc, _^_, _≤_, _<_}
+use Prim.Native.Nat.{ℕ, zero, suc, _^_, _≤_, _<_, _+_}
 use native.Mathlib.Omega.{arith}
-use mathlib.Core.Path.{_≡_, refl, ap, _∙_}
+use mathlib.Core.Path.{_≡_, refl, ap, _∙_, sym, subst₂}
 use mathlib.Core.List.{List, [], _∷_, map}
-use mathlib.Core.Bool.{Bool, true, false, _&&_}
+use mathlib.Core.Bool.{Bool, true, false, _&&_, not}
+use mathlib.Core.Logic.{inl, inr}
 use lib.ListN.{length, length-map}
+use lib.Dec.{eqb, ltb}
+use borrow.Author.Tests.{lt-ltb, eq-eqb}
 use Rattle.bit_rows.specs.Sequences.{tally, below}
-use Rattle.bit_rows.proofs.Tally.{tally-append, tally-le-length, length-upFrom}
-use Rattle.model.specs.Lists.{Within}
-use Rattle.model.specs.TopK.{Node, node, countIn}
-use Rattle.model.specs.Search.{Waiting, wait, waitHalves, moveOf, begin, occupied}
-use Rattle.model.proofs.Sorting.{Every, every-head, every-tail}
-use Rattle.model.proofs.Greedy.Abstract.{Counted, waiting}
-use Rattle.model.proofs.Greedy.Nodes.{nodes, allUnder, living, leafly, leaf-under, living-documents}
-use Rattle.model.proofs.Greedy.Frontier.{join, halves, Ready, ready-root, ready-name, ready-open}
+use Rattle.bit_rows.proofs.Tally.{tally-append, tally-le-length, length-upFrom, tally-map}
+use Rattle.bit_rows.proofs.Tests.{or-left, or-right, both-and}
+use Rattle.model.specs.Lists.{Within, Every}
+use Rattle.model.specs.TopK.{Node, node, countIn, start}
+use Rattle.model.specs.Search.{Waiting, wait, waitHalves, moveOf, begin, occupied, prior}
+use Rattle.model.specs.Frontier.{waiting, nodes, allUnder, Ready, blocks, Waits, aheadNode, under, place}
+use Rattle.model.proofs.Sorting.{every-head, every-tail, every-cons}
+use Rattle.model.proofs.Greedy.Abstract.{Counted}
+use Rattle.model.proofs.Greedy.Nodes.{living, leafly, leaf-under, living-documents, start-leaf, start-le-place, place-le-start}
+use Rattle.model.proofs.Greedy.Frontier.{join, halves, ready-root, ready-name, ready-open, ready-apart, priorNode}
 use Rattle.model.proofs.Greedy.Moves.{wait-join, wait-halves}
 use Rattle.model.proofs.Greedy.Counts.{counted, outside, begin-root}
-
-abbrev pub blocks : List Waiting → List Node
-blocks frontier = map (λ w. w .block) frontier
-
--- each node of the frontier waits with its count, and the nodes are ready for a search of height h:
--- they live, stand in order, and have no leaf in common
-pub record Waits (count : Node → ℕ) (lives : Node → Bool) (h : ℕ) (frontier : List Waiting) : Type 0 where
-  pub counts : frontier ≡ map (waiting count) (blocks frontier)
-  pub ready : Ready count lives h (blocks frontier)
+use Rattle.model.proofs.Priority.{Ahead, ahead-true}
 
 pub blocks-waiting : (count : Node → ℕ) (ms : List Node) → blocks (map (waiting count) ms) ≡ ms
 blocks-waiting count [] = refl
@@ -52,6 +49,49 @@ module _ (count : Node → ℕ) (lives : Node → Bool) (h : ℕ) where
       waits-of (waitHalves count lives l q rest) (halves count lives l q (blocks rest))
       (ap (waitHalves count lives l q) (ap behind (w .counts)) ∙ wait-halves count lives l q (blocks rest))
       (ready-open count lives h l q (blocks rest) (w .ready))
+
+-- ---- the first of the waiting nodes has the largest count and, among equal counts, the lowest start
+
+module _ (count : Node → ℕ) (n : Node) where
+  -- nodes behind n that have no number in common with it
+  prior-all : (ms : List Node) → Every (aheadNode count n) ms
+      → tally (leafly (eqb (start n))) (under n) + tally (leafly (eqb (start n))) (allUnder ms) ≤ 1 → Every (priorNode count n) ms
+  prior-all [] a u = refl
+  prior-all (m ∷ ms) a u =
+      let apart = tally-append (leafly (eqb (start n))) (under m) (allUnder ms) in
+      every-cons (priorNode count n) m ms (one (ahead-true (count n) (place n) (count m) (place m) (every-head (aheadNode count n) m ms a)))
+      (prior-all ms (every-tail (aheadNode count n) m ms a) (omega arith))
+    where
+      differ : start n ≡ start m → ⊥
+      differ e =
+          let here = start-leaf n in
+          let there = rw (← e) at (start-leaf m) in
+          omega (arith, tally-append (leafly (eqb (start n))) (under m) (allUnder ms))
+
+      one : Ahead (count n) (place n) (count m) (place m) → priorNode count n m ≡ true
+      one (inl l) = or-left (ltb (count m) (count n)) (eqb (count m) (count n) && ltb (start n) (start m)) (lt-ltb (count m) (count n) l)
+      one (inr (e, l)) =
+          let below : start n < start m = omega (arith, differ, start-le-place n, place-le-start m) in
+          or-right (ltb (count m) (count n)) (eqb (count m) (count n) && ltb (start n) (start m))
+          (both-and (eqb (count m) (count n)) (ltb (start n) (start m)) (eq-eqb (count m) (count n) e) (lt-ltb (start n) (start m) below))
+
+-- "It concerns the waiting block of largest count, equal counts by lower start"
+pub first-prior : (count : Node → ℕ) (lives : Node → Bool) (h : ℕ) (w : Waiting) (rest : List Waiting)
+    → Waits count lives h (w ∷ rest) → Every (prior w) rest
+first-prior count lives h w rest W =
+    let n : Node = w .block in
+    let ms : List Node = blocks rest in
+    let apart = ready-apart count lives h (n ∷ ms) (W .ready) (start n) in
+    let e : Every (prior (waiting count n)) (map (waiting count) ms) =
+    tally-map (λ v. not (prior (waiting count n) v)) (waiting count) ms
+    ∙ prior-all count n ms (W .ready .sorted .0) (omega (arith, tally-append (leafly (eqb (start n))) (under n) (allUnder ms))) in
+    let head : w ≡ waiting count n = ap (first w) (W .counts) in
+    let others : rest ≡ map (waiting count) ms = ap behind (W .counts) in
+    subst₂ (λ (v : Waiting) (vs : List Waiting). Every (prior v) vs) (sym head) (sym others) e
+  where
+    first : Waiting → List Waiting → Waiting
+    first v [] = v
+    first v (x ∷ xs) = x
 
 -- ---- at most N nodes wait: each holds a document of its own
 

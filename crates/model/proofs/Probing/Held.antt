@@ -12,21 +12,14 @@ use borrow.Author.Tests.{lt-ltb, le-ltb, ltb-true, eqb-true, eqb-false, ne-eqb, 
 use Rattle.bit_rows.specs.Sequences.{bit, tally, upFrom, below, occurrences}
 use Rattle.bit_rows.proofs.Tests.{look}
 use Rattle.bit_rows.proofs.Tally.{tally-append, tally-sum, tally-none, tally-le-length, tally-map, length-upFrom}
-use Rattle.model.specs.Lists.{keep}
+use Rattle.model.specs.Lists.{keep, Every, Sorted}
 use Rattle.model.specs.Queries.{Pair, pairOf, present, listing}
-use Rattle.model.specs.TopK.{ranking, fullList}
+use Rattle.model.specs.TopK.{ranking, fullList, aheadPair}
+use Rattle.model.specs.Probing.{enter, unseen, mark, nobody, seenOf, Held}
 use Rattle.model.proofs.Lists.{length-keep, tally-keep}
-use Rattle.model.proofs.Sorting.{Same, same-length, Every, every-head, every-tail, Sorted, sorted-take}
-use Rattle.model.proofs.Ranking.{aheadPair, ranking-sorted, ranking-same, ranking-unique}
-use Rattle.model.proofs.Probing.Method.{enter, unseen, mark, nobody}
+use Rattle.model.proofs.Sorting.{Same, same-length, every-head, every-tail, sorted-take}
+use Rattle.model.proofs.Ranking.{ranking-sorted, ranking-same, ranking-unique}
 use Rattle.model.proofs.Probing.Insertion.{take-insert, enter-late}
-
--- the documents seen, with their counts
-abbrev pub seenOf : ℕ → List ℕ → (ℕ → Bool) → List Pair
-seenOf N xs seen = keep (λ p. seen (p .document)) (listing N xs)
-
-abbrev pub Held : ℕ → ℕ → List ℕ → (ℕ → Bool) → List Pair → Type 0
-Held N k xs seen candidates = candidates ≡ take k (ranking (seenOf N xs seen))
 
 -- ---- counts of listed and of seen documents, by number
 

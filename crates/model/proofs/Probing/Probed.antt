@@ -14,6 +14,7 @@ use Rattle.bit_rows.proofs.Tests.{le-or-lt, Cmp, less, same, more, cmp}
 use Rattle.bit_rows.proofs.Tally.{tally-le-length}
 use Rattle.model.specs.Lists.{Within}
 use Rattle.model.specs.Queries.{quantile}
+use Rattle.model.specs.Probing.{Probed}
 use Rattle.model.proofs.Lists.{tally-within}
 use Rattle.model.proofs.Wavelet.Sorted.{tally-below-mono, tally-below-suc, quantile-ranked, quantile-is}
 
@@ -38,10 +39,6 @@ quantile-within N xs w r l = go (le-or-lt N (quantile r xs))
     go (inr h) = h
 
 -- ---- every g-th rank
-
--- of the ranks g - 1, 2 * g - 1, 3 * g - 1, .. those below r have been probed
-abbrev pub Probed : List ℕ → ℕ → ℕ → (ℕ → Bool) → Type 0
-Probed xs g r seen = (c : ℕ) → c * g + g ≤ r → c * g + g ≤ length xs → seen (quantile (c * g + g - 1) xs) ≡ true
 
 module _ (xs : List ℕ) (g : ℕ) (pos : 0 < g) (seen : ℕ → Bool) where
   -- the ranks of a document that occurs g times hold one of them

@@ -5,7 +5,7 @@ use native.Mathlib.Nat.{zero-mul, suc-mul}
 use mathlib.Core.Path.{_≡_, refl}
 use mathlib.Core.Logic.{_⊎_, inl, inr}
 use mathlib.Core.List.{List, [], _∷_}
-use mathlib.Core.Bool.{Bool, true, false, not, _&&_}
+use mathlib.Core.Bool.{Bool, true, false, not}
 use lib.ListN.{length, getD}
 use lib.Dec.{leb, ltb, eqb}
 use borrow.Author.Tests.{ltb-false, leb-true, eqb-true, eq-eqb, not-false}
@@ -13,14 +13,21 @@ use Rattle.bit_rows.proofs.Tests.{look, or-left, or-right, and-both, and-cases}
 use Rattle.model.specs.Lists.{Within}
 use Rattle.model.specs.Queries.{quantile, Pair, pairOf}
 use Rattle.model.specs.TopK.{fullList}
-use Rattle.model.proofs.Probing.Method.{enter, unseen, mark, State, probe, nobody, settled}
-use Rattle.model.proofs.Probing.Held.{Held, held-start, held-new, held-all, held-stop}
-use Rattle.model.proofs.Probing.Probed.{quantile-occurs, quantile-within, Probed, probed-count, probed-step}
+use Rattle.model.specs.Probing.{enter, unseen, mark, State, probe, nobody, settled, Probed, Swept, goesOn}
+use Rattle.model.proofs.Probing.Held.{held-start, held-new, held-all, held-stop}
+use Rattle.model.proofs.Probing.Probed.{quantile-occurs, quantile-within, probed-count, probed-step}
 
--- after the round with step g, and before the one with half that step
-pub record Swept (N k : ℕ) (xs : List ℕ) (g : ℕ) (seen : ℕ → Bool) (candidates : List Pair) : Type 0 where
-  pub held : Held N k xs seen candidates
-  pub probed : Probed xs g (length xs) seen
+-- ---- one probe
+
+module _ (k : ℕ) (xs : List ℕ) (r : ℕ) (s : State) where
+  pub probe-again : s .seen (quantile r xs) ≡ true → probe k xs r s ≡ s
+  probe-again e = rw e
+
+  pub probe-new : s .seen (quantile r xs) ≡ false
+      → probe k xs r s ≡ record { seen = mark (quantile r xs) (s .seen); candidates = enter k (pairOf xs (quantile r xs)) (s .candidates) }
+  probe-new e = rw e
+
+-- ---- rounds
 
 -- in the round with step g, before rank r
 pub record Sweeping (N k : ℕ) (xs : List ℕ) (g r : ℕ) (seen : ℕ → Bool) (candidates : List Pair) : Type 0 where
@@ -28,10 +35,6 @@ pub record Sweeping (N k : ℕ) (xs : List ℕ) (g r : ℕ) (seen : ℕ → Bool
   pub turn : ℕ
   pub rank : suc r ≡ 2 * (turn * g) + g
   pub probed : Probed xs g r seen
-
--- another round is to come after the one with step g
-abbrev pub goesOn : ℕ → ℕ → List Pair → Bool
-goesOn k g candidates = ltb 1 g && not (settled k g candidates)
 
 -- nothing is probed, and the step is more than the size
 pub swept-start : {N k : ℕ} {xs : List ℕ} {g : ℕ} → length xs < g → Swept N k xs g unseen []

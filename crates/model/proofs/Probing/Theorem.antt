@@ -13,8 +13,8 @@ use borrow.Author.Tests.{ltb-true, ltb-false, leb-false}
 use Rattle.bit_rows.proofs.Tests.{look}
 use Rattle.model.specs.Lists.{Within}
 use Rattle.model.specs.TopK.{fullList}
-use Rattle.model.proofs.Probing.Method.{State, unseen, probe, sweep, round, settled, rounds, exponentTo, probing}
-use Rattle.model.proofs.Probing.Rounds.{Swept, Sweeping, swept-start, sweeping-start, sweeping-end, sweeping-probe, swept-last, swept-settled}
+use Rattle.model.specs.Probing.{State, unseen, probe, sweep, round, settled, rounds, exponentTo, probing, Swept}
+use Rattle.model.proofs.Probing.Rounds.{Sweeping, swept-start, sweeping-start, sweeping-end, sweeping-probe, swept-last, swept-settled}
 
 -- the first step is more than half the size
 exponent-high : (f m : ℕ) → m < 2 ^ suc f → m < 2 ^ suc (exponentTo f m)

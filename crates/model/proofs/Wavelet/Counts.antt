@@ -10,8 +10,8 @@ use Rattle.bit_rows.proofs.Tally.{tally-le-length, tally-take-le}
 use Rattle.model.specs.Lists.{part}
 use Rattle.model.specs.Rows.{row}
 use Rattle.model.specs.TopK.{node, countIn}
+use Rattle.model.specs.Walk.{zerosIn, left, right, posOf, pos, key}
 use Rattle.model.proofs.Lists.{tally-part}
-use Rattle.model.proofs.Wavelet.Walk.{zerosIn, left, right, posOf, pos, key}
 use Rattle.model.proofs.Wavelet.Groups.{tally-ltb-suc}
 use Rattle.model.proofs.Wavelet.Rows.{row-ones, count-halves}
 

@@ -7,7 +7,7 @@ use native.Mathlib.Omega.{arith}
 use native.Mathlib.Decide.{ℕ-discrete}
 use lib.Dec.{eqb}
 use borrow.Author.Tests.{eq-eqb, ne-eqb}
-use Rattle.model.proofs.Wavelet.Walk.{key}
+use Rattle.model.specs.Walk.{key}
 use Rattle.model.proofs.Wavelet.Rows.{key-half, key-lt, key-leaf, key-root}
 
 module _ (h v : ℕ) (P : ℕ → ℕ → ℕ → Type 0) where

@@ -15,8 +15,8 @@ use Rattle.bit_rows.proofs.Tally.{tally-le-length, tally-same}
 use Rattle.model.specs.Lists.{part}
 use Rattle.model.specs.Rows.{row}
 use Rattle.model.specs.Queries.{quantile}
+use Rattle.model.specs.Walk.{zerosIn, pos, key, quantileFrom, quantileWalk}
 use Rattle.model.proofs.Lists.{length-part, within-part}
-use Rattle.model.proofs.Wavelet.Walk.{zerosIn, pos, key, quantileFrom, quantileWalk}
 use Rattle.model.proofs.Wavelet.Groups.{tally-ltb-suc}
 use Rattle.model.proofs.Wavelet.Rows.{key-leaf, RowsOf, tally-root, tally-before-root, root-start, root-place, root-end, row-left, row-right, row-start, row-middle, row-end, count-halves, count-start, count-middle}
 use Rattle.model.proofs.Wavelet.Counts.{low-count, node-count}

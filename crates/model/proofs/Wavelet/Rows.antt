@@ -13,8 +13,8 @@ use Rattle.bit_rows.specs.Sequences.{tally, rank}
 use Rattle.bit_rows.proofs.Tally.{tally-none}
 use Rattle.model.specs.Lists.{Within}
 use Rattle.model.specs.Rows.{row, arranged}
+use Rattle.model.specs.Walk.{zerosIn, left, right, posOf, pos, key}
 use Rattle.model.proofs.Lists.{tally-within, within-take}
-use Rattle.model.proofs.Wavelet.Walk.{zerosIn, left, right, posOf, pos, key}
 use Rattle.model.proofs.Wavelet.Groups.{groupsFrom, pos-lt, length-groups}
 use Rattle.model.proofs.Wavelet.Step.{rowOf, step-ones, step-zeros, step-left, step-right, step-start, step-middle, step-end, step-bit, tally-halves, tally-start, tally-middle}
 

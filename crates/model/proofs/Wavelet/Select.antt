@@ -7,13 +7,13 @@ use native.Mathlib.Omega.{arith}
 use lib.ListN.{length, getD, take}
 use lib.Dec.{eqb}
 use Rattle.bit_rows.specs.Sequences.{tally, occurrences, rank, select}
+use Rattle.bit_rows.proofs.Sequences.{select-eq}
 use Rattle.model.specs.Rows.{row}
+use Rattle.model.specs.Walk.{pos, key, selectFrom, selectWalk}
 use Rattle.model.proofs.Lists.{within-at}
-use Rattle.model.proofs.Wavelet.Walk.{pos, key, selectFrom, selectWalk}
 use Rattle.model.proofs.Wavelet.Rows.{RowsOf, root-start, root-place, root-end, row-ones, row-left, row-start, row-middle, row-end, row-bit, row-below, row-pos-lt, count-halves}
 use Rattle.model.proofs.Wavelet.Descend.{FromLow, FromHigh, descend}
 use Rattle.model.proofs.Wavelet.Rank.{tally-leaf}
-use Rattle.bit_rows.proofs.Sequences.{select-eq}
 use Rattle.model.proofs.Wavelet.Place.{Placed, select-placed, zeros-front}
 
 module _ {h n : ℕ} {xs : List ℕ} {rows : ℕ → List ℕ} (R : RowsOf h n xs rows) (i : ℕ) (l : i < length xs) where

@@ -12,8 +12,8 @@ use borrow.Author.Tests.{lt-ltb, le-leb, eq-eqb, ne-eqb}
 use Rattle.bit_rows.proofs.Tests.{eqb-iff}
 use Rattle.model.specs.Lists.{keep, Within}
 use Rattle.model.specs.Rows.{row}
+use Rattle.model.specs.Walk.{key}
 use Rattle.model.proofs.Lists.{map-append, keep-within}
-use Rattle.model.proofs.Wavelet.Walk.{key}
 use Rattle.model.proofs.Wavelet.Groups.{groupsFrom, groups-add}
 use Rattle.model.proofs.Wavelet.Rows.{key-root}
 

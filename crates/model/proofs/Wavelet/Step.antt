@@ -14,8 +14,8 @@ use Rattle.bit_rows.specs.Sequences.{bit, tally, occurrences, rank}
 use Rattle.bit_rows.proofs.Tests.{eqb-iff, ltb-iff}
 use Rattle.bit_rows.proofs.Tally.{tally-sum, tally-same, tally-append, tally-map}
 use Rattle.model.specs.Lists.{keep}
+use Rattle.model.specs.Walk.{zerosIn, left, right, posOf}
 use Rattle.model.proofs.Lists.{map-append, map-take, getD-map, tally-keep}
-use Rattle.model.proofs.Wavelet.Walk.{zerosIn, left, right, posOf}
 use Rattle.model.proofs.Wavelet.Groups.{groupsFrom, tally-ltb-suc, groups-front, groups-at, pos-lt, pos-end}
 
 -- ---- a number's half and last bit

@@ -13,10 +13,11 @@ use Rattle.bit_rows.specs.Sequences.{bit, tally, below, occurrences}
 use Rattle.bit_rows.proofs.Tests.{look, and-both, both-and, le-or-lt}
 use Rattle.bit_rows.proofs.Tally.{tally-append, tally-le, tally-none, tally-map, tally-take-le, length-upFrom, getD-upFrom}
 use Rattle.model.specs.Queries.{Pair, pairOf, present, listing}
-use Rattle.model.specs.TopK.{start, countIn, innerNodes, ranking, fullList, last, need, covered}
+use Rattle.model.specs.TopK.{start, countIn, innerNodes, ranking, fullList, last, need, covered, aheadPair}
 use Rattle.model.proofs.Lists.{tally-keep, tally-take-lt}
-use Rattle.model.proofs.Sorting.{Every, every-head, every-tail, every-cons, every-take, Sorted, sorted-take, same-length}
-use Rattle.model.proofs.Ranking.{aheadPair, ranking-sorted, ranking-same}
+use Rattle.model.specs.Lists.{Every, Sorted}
+use Rattle.model.proofs.Sorting.{every-head, every-tail, every-cons, every-take, sorted-take, same-length}
+use Rattle.model.proofs.Ranking.{ranking-sorted, ranking-same}
 use Rattle.model.proofs.Greedy.Nodes.{upFrom-once}
 
 -- ---- lists of pairs

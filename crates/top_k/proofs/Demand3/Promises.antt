@@ -17,11 +17,12 @@ use Rattle.model.specs.Opening.{opening, contents}
 use Rattle.model.specs.Queries.{Pair, Range, Bounds, boundsOf, inRange, flat}
 use Rattle.model.specs.TopK.{fullList, need, covered, Answer, done, spent, topK, Ended, doneWith, spentWith, endedOf, pairsOf, SearchResult, foundInto, greedyResult, probingResult}
 use Rattle.model.specs.Search.{isOpening, searchMoves}
+use Rattle.model.specs.Demand3.{isDone, figure}
 use Rattle.model.proofs.Height.{le-pow-height}
 use Rattle.model.proofs.Lists.{within-part}
 use Rattle.model.proofs.Format.Valid.{refuse-answered}
 use Rattle.model.proofs.Format.WriteBack as opened
-use Rattle.model.proofs.Probing.Slices.{length-flat}
+use Rattle.model.proofs.Pairs.{length-flat}
 use Rattle.model.proofs.Greedy.Answers.{figureOf}
 use Rattle.model.proofs.Greedy.Theorem.{openings, topK-mono}
 use Rattle.search.specs.Sought.{Asked, greedyOf, probingOf}
@@ -82,18 +83,6 @@ module _ (bytes : List ℕ) (range : Range) (k : ℕ) (out work : List ℕ) (x :
       from (refused number) e q = let z : _≡_ {A = ℕ} 0 1 = cc q in absurd (omega arith)
 
 -- ---- what an answer says
-
--- whether it is 'done'
-abbrev pub isDone : Outcome Ended → Bool
-isDone (answered (doneWith listed openings)) = true
-isDone (answered (spentWith listed allowance)) = false
-isDone (refused number) = false
-
--- its number: the openings, or the allowance
-abbrev pub figure : Outcome Ended → ℕ
-figure (answered (doneWith listed openings)) = openings
-figure (answered (spentWith listed allowance)) = allowance
-figure (refused number) = 0
 
 -- how many pairs it lists
 abbrev pub listed : Outcome Ended → ℕ

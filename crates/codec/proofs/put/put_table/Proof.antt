@@ -1,6 +1,6 @@
+use Prim.Native.Nat.{ℕ, _+_, _-_, _*_, _≤_}
 use mathlib.Core.Path.{_≡_, refl, ap, _∙_}
 use mathlib.Core.List.{[], _++_, List, map}
-use Prim.Native.Nat.{ℕ, _+_, _-_, _*_, _≤_}
 use native.Mathlib.Omega.{arith}
 use lib.Seq.{length-take-le, take-all, paste-zero}
 use lib.ListN.{length-append, length, take}
@@ -10,8 +10,9 @@ use Rattle.bit_rows.specs.Bits.{concat, sum, littleEndian}
 use Rattle.bit_rows.proofs.LittleEndian.{length-numbers}
 use Rattle.model.specs.Format.{tableFrom}
 use Rattle.model.proofs.Format.Layout.{length-table}
+use Rattle.model.proofs.Sums.{sum-take-le}
 use Rattle.codec.specs.Writing.{overwriteAt}
-use Rattle.codec.proofs.Numbers.{sum-suc, sum-front-le, table-suc}
+use Rattle.codec.proofs.Numbers.{sum-suc, table-suc}
 use Rattle.codec.proofs.Overwrite.{overwriteAt-next}
 use Rattle.codec.proofs.put.put_table.Statement.{statement}
 use Rattle.codec.proofs.put.put_table.Tie as tie
@@ -42,7 +43,7 @@ add-put-number : tie.Need-add-put-number Inv-loop μ-loop
 add-put-number c = search needs
 
 put-number-requires : tie.Need-put-number-requires Inv-loop μ-loop
-put-number-requires c κs = omega (arith, sum-front-le (c .before .before .before .before .before .before .before .args .lengths .now) (c .before .before .before .before .loop .t))
+put-number-requires c κs = omega (arith, sum-take-le (c .before .before .before .before .before .before .before .args .lengths .now) (c .before .before .before .before .loop .t))
 
 mul-put-number-2 : tie.Need-mul-put-number-2 Inv-loop μ-loop
 mul-put-number-2 c = search needs
@@ -54,7 +55,7 @@ put-number-requires-2 : tie.Need-put-number-requires-2 Inv-loop μ-loop
 put-number-requires-2 c κs = omega arith
 
 add-start : tie.Need-add-start Inv-loop μ-loop
-add-start c = record { fits = omega (arith, sum-front-le (c .before .before .before .before .before .before .before .before .before .before .before .before .before .before .args .lengths .now) (c .before .before .before .before .before .before .before .before .before .before .before .loop .t)) }
+add-start c = record { fits = omega (arith, sum-take-le (c .before .before .before .before .before .before .before .before .before .before .before .before .before .before .args .lengths .now) (c .before .before .before .before .before .before .before .before .before .before .before .loop .t)) }
 
 add-t : tie.Need-add-t Inv-loop μ-loop
 add-t c = search needs

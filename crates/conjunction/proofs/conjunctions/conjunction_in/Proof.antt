@@ -1,16 +1,16 @@
-use borrow.Author.Needs.{needs}
 use Prim.Native.Nat.{ℕ, _-_}
 use native.Mathlib.Omega.{arith}
 use native.Mathlib.Numerals.{add-one}
-use mathlib.Core.Path.{_≡_, refl, sym, _∙_, subst}
+use mathlib.Core.Path.{_≡_, refl, sym, _∙_, subst, ap}
 use mathlib.Core.List.{List}
 use lib.ListN.{length, take}
+use borrow.Author.Needs.{needs}
 use Rattle.model.specs.Format.{Library}
 use Rattle.model.specs.Opening.{contents}
 use Rattle.model.specs.Queries.{countsUnder}
-use Rattle.conjunction.specs.declared.common.Next.the-variants.{Document}
 use Rattle.archive.proofs.Opened.{fitting, documents-are, documents-fit}
-use Rattle.conjunction.specs.Conjunction.{nextCommon}
+use Rattle.conjunction.specs.declared.common.Next.the-variants.{Document}
+use Rattle.conjunction.specs.Conjunction.{nextCommon, nextIs, nextOf}
 use Rattle.conjunction.specs.Paths.{termSpan, Ready, HeldAt}
 use Rattle.conjunction.proofs.Walks.{Walking, walking-start, walking-size, walking-few, walking-next, walking-end, turn}
 use Rattle.conjunction.proofs.conjunctions.conjunction_in.Statement.{statement}
@@ -82,7 +82,7 @@ returns c =
     let lib : Library = contents (g .archive .now) in
     let ts : List ℕ = take (g .q .size) (g .q .numbers) in
     let n = documents-are (g .archive .now) (g .l) (s .pre .0) in
-    walking-end lib (g .l .levels .height) ts (g .answers .now) (k .inv .0) (cc) (omega (arith, documents-fit (g .archive .now) (g .l) (s .pre .0))) (omega (arith, s .pre .1 .1))
+    walking-end lib (g .l .levels .height) ts (g .answers .now) (k .inv .0) (sym (c .before .before .before .next-common .ensures .0) ∙ ap nextOf (c .enum-told .given .1)) (omega (arith, documents-fit (g .archive .now) (g .l) (s .pre .0))) (omega (arith, s .pre .1 .1))
 
 put-pair-requires : tie.Need-put-pair-requires Inv-loop μ-loop
 put-pair-requires c κs =
@@ -94,7 +94,7 @@ put-pair-requires c κs =
     let eight : length (g .q .numbers) ≡ 8 = search needs in
     let x : ℕ = c .before .before .document .given .0 .0 in
     let y : ℕ = c .before .before .document .given .0 .1 .0 in
-    let e : nextCommon (countsUnder lib ts) (g .l .levels .height) (k .at) ≡ Document x y = cc in
+    let e : nextCommon (countsUnder lib ts) (g .l .levels .height) (k .at) ≡ nextIs x y = sym (c .before .before .before .before .before .next-common .ensures .0) ∙ ap nextOf (c .before .before .document .given .1) in
     let u = turn (g .archive .now) (g .l) (s .pre .0) (g .q) (s .pre .1 .0) eight (k .at) x y e in
     let room = walking-size lib (g .l .levels .height) ts (g .answers .now) (k .inv .0) in
     let few = walking-few lib (g .l .levels .height) ts (g .answers .now) (k .inv .0) in
@@ -111,7 +111,7 @@ add-found c =
     let eight : length (g .q .numbers) ≡ 8 = search needs in
     let x : ℕ = c .before .before .before .before .before .document .given .0 .0 in
     let y : ℕ = c .before .before .before .before .before .document .given .0 .1 .0 in
-    let e : nextCommon (countsUnder lib ts) (g .l .levels .height) (k .at) ≡ Document x y = cc in
+    let e : nextCommon (countsUnder lib ts) (g .l .levels .height) (k .at) ≡ nextIs x y = sym (c .before .before .before .before .before .before .before .before .next-common .ensures .0) ∙ ap nextOf (c .before .before .before .before .before .document .given .1) in
     let u = turn (g .archive .now) (g .l) (s .pre .0) (g .q) (s .pre .1 .0) eight (k .at) x y e in
     let fit = fitting (g .archive .now) (g .l) (s .pre .0) .documents in
     omega (arith, walking-few lib (g .l .levels .height) ts (g .answers .now) (k .inv .0))
@@ -126,7 +126,7 @@ add-at c =
     let eight : length (g .q .numbers) ≡ 8 = search needs in
     let x : ℕ = c .before .before .before .before .before .document .given .0 .0 in
     let y : ℕ = c .before .before .before .before .before .document .given .0 .1 .0 in
-    let e : nextCommon (countsUnder lib ts) (g .l .levels .height) (k .at) ≡ Document x y = cc in
+    let e : nextCommon (countsUnder lib ts) (g .l .levels .height) (k .at) ≡ nextIs x y = sym (c .before .before .before .before .before .before .before .before .next-common .ensures .0) ∙ ap nextOf (c .before .before .before .before .before .document .given .1) in
     let u = turn (g .archive .now) (g .l) (s .pre .0) (g .q) (s .pre .1 .0) eight (k .at) x y e in
     let fit = fitting (g .archive .now) (g .l) (s .pre .0) .documents in
     omega arith
@@ -141,7 +141,7 @@ loop-less c =
     let eight : length (g .q .numbers) ≡ 8 = search needs in
     let x : ℕ = c .before .before .before .before .before .document .given .0 .0 in
     let y : ℕ = c .before .before .before .before .before .document .given .0 .1 .0 in
-    let e : nextCommon (countsUnder lib ts) (g .l .levels .height) (k .at) ≡ Document x y = cc in
+    let e : nextCommon (countsUnder lib ts) (g .l .levels .height) (k .at) ≡ nextIs x y = sym (c .before .before .before .before .before .before .before .before .next-common .ensures .0) ∙ ap nextOf (c .before .before .before .before .before .document .given .1) in
     let u = turn (g .archive .now) (g .l) (s .pre .0) (g .q) (s .pre .1 .0) eight (k .at) x y e in
     omega arith
 
@@ -155,7 +155,7 @@ loop-again c =
     let eight : length (g .q .numbers) ≡ 8 = search needs in
     let x : ℕ = c .before .before .before .before .before .document .given .0 .0 in
     let y : ℕ = c .before .before .before .before .before .document .given .0 .1 .0 in
-    let e : nextCommon (countsUnder lib ts) (g .l .levels .height) (k .at) ≡ Document x y = cc in
+    let e : nextCommon (countsUnder lib ts) (g .l .levels .height) (k .at) ≡ nextIs x y = sym (c .before .before .before .before .before .before .before .before .next-common .ensures .0) ∙ ap nextOf (c .before .before .before .before .before .document .given .1) in
     let u = turn (g .archive .now) (g .l) (s .pre .0) (g .q) (s .pre .1 .0) eight (k .at) x y e in
     let w = walking-next lib (g .l .levels .height) ts (g .answers .now) (k .inv .0) x y e (rw (documents-are (g .archive .now) (g .l) (s .pre .0)) (u .lt)) (c .before .before .put-pair .ensures) in
     let n = c .before .before .before .before .before .before .before .before .next-common in

@@ -6,14 +6,11 @@ use Rattle.greedy.proofs.run.ended.Tie as tie
 cast-listed : tie.Need-cast-listed
 cast-listed c = search needs
 
-sub-t6 : tie.Need-sub-t6
-sub-t6 c = search needs
-
 returns : tie.Need-returns
 returns c = rw (c .if1 .taken)
 
 returns-2 : tie.Need-returns-2
-returns-2 c = rw (c .before .if1 .left)
+returns-2 c = rw (c .if1 .left)
 
 pub ended-spec : {M : Type 1} → statement M
-ended-spec = tie.close (tie.spec cast-listed sub-t6 returns returns-2)
+ended-spec = tie.close (tie.spec cast-listed returns returns-2)

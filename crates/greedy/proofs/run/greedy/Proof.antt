@@ -1,11 +1,11 @@
 -- `greedy`: the loop follows the course of the moves; at its end the answer is read off them.
-use borrow.Author.Needs.{needs}
 use native.Mathlib.Omega.{arith}
 use mathlib.Core.Path.{_≡_, sym, _∙_}
 use mathlib.Core.Bool.{true, false}
+use borrow.Author.Needs.{needs}
 use Rattle.greedy.specs.Results.{goesOn}
 use Rattle.greedy.proofs.Course.{fuelOf}
-use Rattle.greedy.proofs.Searching.{Searching, searching-begin, begun-rest, some-wait, searching-room, searching-less, searching-step, listed-le, left-le, searching-end}
+use Rattle.greedy.proofs.Searching.{Searching, searching-begin, begun-rest, some-wait, searching-room, searching-less, searching-step, listed-le, searching-end}
 use Rattle.greedy.proofs.run.greedy.Statement.{statement}
 use Rattle.greedy.proofs.run.greedy.Tie as tie
 
@@ -13,7 +13,7 @@ abbrev Inv-loop : tie.InvT-loop
 Inv-loop bytes s k allowance answers₀ work₀ p₀ answers work p = Searching bytes s k allowance answers₀ work₀ answers work p
 
 abbrev μ-loop : tie.MeasureT-loop
-μ-loop bytes s k allowance answers₀ work₀ p₀ answers work p = fuelOf k p
+μ-loop bytes s k allowance answers₀ work₀ p₀ answers work p = fuelOf k allowance p
 
 begin-requires : tie.Need-begin-requires Inv-loop μ-loop
 begin-requires c κs =
@@ -43,7 +43,7 @@ advance-requires c κs =
     let on : goesOn (l .p) (a .k) ≡ true = sym (c .before .before .before .goes-on .ensures) ∙ c .before .before .if1 .taken in (
       s .pre .0,
       (
-        (some-wait (a .bytes .now) (a .s) (s .pre .0) (a .k) (a .allowance) (a .answers .now) w₀ (l .answers) (l .work) (l .p) (l .inv) on (s .pre .1 .0), l .inv .kept),
+        (some-wait (a .bytes .now) (a .s) (s .pre .0) (a .k) (a .allowance) (a .answers .now) w₀ (l .answers) (l .work) (l .p) (l .inv) on (s .pre .1 .0), l .inv .kept, l .inv .course .covered),
         searching-room (a .bytes .now) (a .s) (s .pre .0) (a .k) (a .allowance) (a .answers .now) w₀ (l .answers) (l .work) (l .p) (l .inv) on (s .pre .1 .0),
       ),
     )
@@ -56,7 +56,7 @@ loop-less c =
     let on : goesOn (l .p) (a .k) ≡ true = sym (c .before .before .before .before .before .before .before .before .goes-on .ensures) ∙ c .before .before .before .before .before .before .before .if1 .taken in
     let r = c .before .before .before .before .advance in
     searching-less (a .bytes .now) (a .s) (s .pre .0) (a .k) (a .allowance) (a .answers .now) (c .before .before .before .before .before .before .before .before .before .before .before .before .begin .last .1 .0) (l .answers) (l .work) (l .p) (l .inv) on (s .pre .1 .0)
-    (r .last .1 .1 .1 .0) (r .last .1 .1 .1 .1 .0) (r .result) (r .ensures)
+    (r .last .1 .1 .1 .1 .0) (r .last .1 .1 .1 .1 .1 .0) (r .result) (r .ensures)
 
 loop-again : tie.Need-loop-again Inv-loop μ-loop
 loop-again c =
@@ -66,7 +66,7 @@ loop-again c =
     let on : goesOn (l .p) (a .k) ≡ true = sym (c .before .before .before .before .before .before .before .before .goes-on .ensures) ∙ c .before .before .before .before .before .before .before .if1 .taken in
     let r = c .before .before .before .before .advance in
     searching-step (a .bytes .now) (a .s) (s .pre .0) (a .k) (a .allowance) (a .answers .now) (c .before .before .before .before .before .before .before .before .before .before .before .before .begin .last .1 .0) (l .answers) (l .work) (l .p) (l .inv) on (s .pre .1 .0)
-    (r .last .1 .1 .1 .0) (r .last .1 .1 .1 .1 .0) (r .result) (r .ensures)
+    (r .last .1 .1 .1 .1 .0) (r .last .1 .1 .1 .1 .1 .0) (r .result) (r .ensures)
 
 mul-clear : tie.Need-mul-clear Inv-loop μ-loop
 mul-clear c = let few = c .before .before .before .before .before .before .before .before .before .before .before .before .pre .0 .few in omega arith
@@ -81,10 +81,8 @@ ended-requires c κs =
     let s = c .before .before .before .before .before .before .before .before .before .before .before .before .before .before .before in
     let a = s .args in
     let l = c .before .before .before .before .before .before .before .loop in
-    let k = s .fits .k in (
-      omega (arith, listed-le (a .bytes .now) (a .s) (s .pre .0) (a .k) (a .allowance) (a .answers .now) (c .before .before .before .before .before .before .before .before .before .before .begin .last .1 .0) (l .answers) (l .work) (l .p) (l .inv)),
-      left-le (a .bytes .now) (a .s) (s .pre .0) (a .k) (a .allowance) (a .answers .now) (c .before .before .before .before .before .before .before .before .before .before .begin .last .1 .0) (l .answers) (l .work) (l .p) (l .inv),
-    )
+    let k = s .fits .k in
+    omega (arith, listed-le (a .bytes .now) (a .s) (s .pre .0) (a .k) (a .allowance) (a .answers .now) (c .before .before .before .before .before .before .before .before .before .before .begin .last .1 .0) (l .answers) (l .work) (l .p) (l .inv))
 
 same-length : tie.Need-same-length Inv-loop μ-loop
 same-length c =

@@ -1,7 +1,8 @@
 use Prim.Native.Nat.{_+_, _-_, _^_, _<_}
 use native.Mathlib.Omega.{arith}
-use Rattle.model.proofs.Probing.Steps.{Power, power-one, power-double}
 use borrow.Author.Needs.{needs}
+use Rattle.probing.specs.Slices.{Power}
+use Rattle.probing.proofs.Laws.Steps.{power-one, power-double}
 use Rattle.probing.proofs.rounds.first_step.Statement.{statement}
 use Rattle.probing.proofs.rounds.first_step.Tie as tie
 

@@ -1,7 +1,7 @@
 use Prim.Native.Nat.{_+_, _*_, _-_}
 use native.Mathlib.Omega.{arith}
-use Rattle.model.proofs.Probing.Steps.{goes-on-last, goes-on-short, goes-on-full}
 use borrow.Author.Needs.{needs}
+use Rattle.probing.proofs.Laws.Steps.{goes-on-last, goes-on-short, goes-on-full}
 use Rattle.probing.proofs.rounds.goes_on.Statement.{statement}
 use Rattle.probing.proofs.rounds.goes_on.Tie as tie
 

@@ -3,12 +3,14 @@ use Prim.Native.Nat.{_^_, _<_}
 use native.Mathlib.Omega.{arith}
 use mathlib.Core.Path.{_≡_, refl, sym, _∙_}
 use lib.ListN.{length}
-use Rattle.model.proofs.Probing.Rounds.{Swept, swept-start}
-use Rattle.model.proofs.Probing.Slices.{pairsIn, marked}
-use Rattle.model.proofs.Probing.Steps.{Lent, lent-same, Kept, kept-refl, kept-trans, held-room, swept-written, goes-on-more, Power, power-half}
-use Rattle.search.specs.Searchable.{rangeOf}
-use Rattle.probing.proofs.Ranges.{length-range, range-few, lent-range}
 use borrow.Author.Needs.{needs}
+use Rattle.model.specs.Probing.{Swept}
+use Rattle.model.specs.Queries.{pairsIn}
+use Rattle.model.proofs.Probing.Rounds.{swept-start}
+use Rattle.search.specs.Searchable.{rangeOf}
+use Rattle.probing.specs.Slices.{marked, Lent, Kept, Power}
+use Rattle.probing.proofs.Laws.Steps.{lent-same, kept-refl, kept-trans, held-room, swept-written, goes-on-more, power-half}
+use Rattle.probing.proofs.Ranges.{length-range, range-few, lent-range}
 use Rattle.probing.proofs.run.full_list.Statement.{statement}
 use Rattle.probing.proofs.run.full_list.Tie as tie
 

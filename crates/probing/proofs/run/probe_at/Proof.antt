@@ -4,13 +4,13 @@ use native.Mathlib.Omega.{arith}
 use mathlib.Core.Path.{_≡_, sym, ap, _∙_}
 use mathlib.Core.List.{List}
 use lib.ListN.{length}
-use Rattle.bit_rows.specs.Sequences.{occurrences}
-use Rattle.wavelet.specs.declared.Counted.{Counted}
-use Rattle.model.specs.Queries.{quantile}
-use Rattle.model.proofs.Probing.Steps.{kept-refl, rank-within, step-again, step-room, step-new, step-kept}
-use Rattle.search.specs.Searchable.{rangeOf}
-use Rattle.probing.proofs.Ranges.{length-range, count-few}
 use borrow.Author.Needs.{needs}
+use Rattle.bit_rows.specs.Sequences.{occurrences}
+use Rattle.model.specs.Queries.{quantile}
+use Rattle.wavelet.specs.declared.Counted.{Counted}
+use Rattle.search.specs.Searchable.{rangeOf}
+use Rattle.probing.proofs.Laws.Steps.{kept-refl, rank-within, step-again, step-room, step-new, step-kept}
+use Rattle.probing.proofs.Ranges.{length-range, count-few}
 use Rattle.probing.proofs.run.probe_at.Statement.{statement}
 use Rattle.probing.proofs.run.probe_at.Tie as tie
 

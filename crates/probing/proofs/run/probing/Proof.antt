@@ -3,9 +3,10 @@ use Prim.Native.Nat.{ℕ, _*_}
 use native.Mathlib.Omega.{arith}
 use mathlib.Core.Path.{ap, _∙_}
 use lib.ListN.{length, drop, replicate}
-use Rattle.model.proofs.Probing.Slices.{marked, marked-clear, clear-again}
-use Rattle.probing.specs.Full.{listedIs}
 use borrow.Author.Needs.{needs}
+use Rattle.probing.specs.Slices.{marked}
+use Rattle.probing.specs.Full.{listedIs}
+use Rattle.probing.proofs.Laws.Slices.{marked-clear, clear-again}
 use Rattle.probing.proofs.run.probing.Statement.{statement}
 use Rattle.probing.proofs.run.probing.Tie as tie
 

@@ -3,13 +3,14 @@ use Prim.Native.Nat.{_+_, _-_, _*_}
 use native.Mathlib.Omega.{arith}
 use mathlib.Core.Path.{_≡_, refl, subst⁻¹}
 use lib.ListN.{length}
-use Rattle.model.proofs.Probing.Method.{State}
-use Rattle.model.proofs.Probing.Rounds.{Sweeping, sweeping-start, sweeping-end, sweeping-probe}
-use Rattle.model.proofs.Probing.Slices.{pairsIn, marked}
-use Rattle.model.proofs.Probing.Steps.{stateIn, lent-same, Kept, kept-refl, kept-trans}
-use Rattle.search.specs.Searchable.{rangeOf}
-use Rattle.probing.proofs.Ranges.{length-range, range-few}
 use borrow.Author.Needs.{needs}
+use Rattle.model.specs.Probing.{State}
+use Rattle.model.specs.Queries.{pairsIn}
+use Rattle.model.proofs.Probing.Rounds.{Sweeping, sweeping-start, sweeping-end, sweeping-probe}
+use Rattle.search.specs.Searchable.{rangeOf}
+use Rattle.probing.specs.Slices.{marked, stateIn, Kept}
+use Rattle.probing.proofs.Laws.Steps.{lent-same, kept-refl, kept-trans}
+use Rattle.probing.proofs.Ranges.{length-range, range-few}
 use Rattle.probing.proofs.run.sweep.Statement.{statement}
 use Rattle.probing.proofs.run.sweep.Tie as tie
 

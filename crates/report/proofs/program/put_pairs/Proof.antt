@@ -4,11 +4,12 @@ use native.Mathlib.Omega.{arith}
 use native.Mathlib.Numerals.{add-one}
 use mathlib.Core.Path.{_≡_, sym, ap, _∙_, subst}
 use mathlib.Core.List.{List}
-use Rattle.model.proofs.Probing.Slices.{pairAt, pairs-suc, pairsIn}
-use Rattle.report.proofs.Typing.{types-nil, types-append, lines-snoc}
+use borrow.Author.Needs.{needs}
+use Rattle.model.specs.Queries.{pairAt, pairsIn}
+use Rattle.model.proofs.Pairs.{pairs-suc}
 use Rattle.report.specs.Report.{linesOf}
 use Rattle.report.specs.Types.{Types}
-use borrow.Author.Needs.{needs}
+use Rattle.report.proofs.Typing.{types-nil, types-append, lines-snoc}
 use Rattle.report.proofs.program.put_pairs.Statement.{statement}
 use Rattle.report.proofs.program.put_pairs.Tie as tie
 

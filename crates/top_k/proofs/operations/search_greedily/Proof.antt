@@ -1,12 +1,13 @@
 -- `search_greedily`: by the cases of the question.
 use mathlib.Core.Path.{sym, ap, _∙_, subst}
 use lib.ListN.{length}
-use Rattle.model.specs.Outcome.{answered, andThen}
-use Rattle.model.specs.TopK.{foundInto}
-use Rattle.top_k.specs.declared.Query.{Query}
-use Rattle.search.specs.Sought.{greedyOf}
-use Rattle.top_k.specs.Asked.{askedIn, Ready}
 use borrow.Author.Needs.{needs}
+use Rattle.model.specs.Outcome.{answered, andThen}
+use Rattle.model.specs.TopK.{Ended, Found, foundInto}
+use Rattle.search.specs.Sought.{greedyOf}
+use Rattle.greedy.proofs.Answers.{found-answer}
+use Rattle.top_k.specs.declared.Query.{Query}
+use Rattle.top_k.specs.Asked.{askedIn, Ready}
 use Rattle.top_k.proofs.operations.search_greedily.Statement.{statement}
 use Rattle.top_k.proofs.operations.search_greedily.Tie as tie
 
@@ -39,9 +40,12 @@ returns-2 : tie.Need-returns-2
 returns-2 c =
     let s = c .before .before .before .before .before .before .before .before .before .before .before .before .before .before in
     let found = c .before .before .before .before .before .greedy in
+    let asked = c .before .before .before .before .before .before .before .before .before .q2 .given in
+    let ready = subst (Ready (s .args .archive .now) (s .args .k) (length (s .args .answers .now)) (length (s .args .work .now))) (asked .1) (s .pre) in
     (λ i. record { outcome = c .answer-of .ensures i; answers = found .last .1 .1 .1 .1 .0; work = found .last .1 .1 .1 .1 .1 .0 })
     ∙ found .ensures
-    ∙ sym (ap (λ (q : Query). foundInto (s .args .answers .now) (s .args .work .now) (andThen (askedIn (s .args .archive .now) q) (λ x. answered (greedyOf (s .args .k) (s .args .allowance) x)))) (c .before .before .before .before .before .before .before .before .before .q2 .given .1))
+    ∙ ap (λ (f : Found Ended). foundInto (s .args .answers .now) (s .args .work .now) (answered f)) (found-answer (s .args .archive .now) (asked .0 .0) (ready .0) (s .args .k) (s .args .allowance))
+    ∙ sym (ap (λ (q : Query). foundInto (s .args .answers .now) (s .args .work .now) (andThen (askedIn (s .args .archive .now) q) (λ x. answered (greedyOf (s .args .k) (s .args .allowance) x)))) (asked .1))
 
 pub search-greedily-spec : {M : Type 1} → statement M
 search-greedily-spec =

@@ -1,5 +1,5 @@
 -- What code of the two loops asks for, over the lent slices: a probe, whether another round is to come, and the steps, powers of two.
-use Prim.Native.Nat.{ℕ, zero, suc, _+_, _-_, _*_, _/_, _^_, _≤_, _<_, min}
+use Prim.Native.Nat.{ℕ, zero, suc, _+_, _-_, _*_, _/_, _^_, _≤_, _<_}
 use native.Mathlib.Omega.{arith}
 use native.Mathlib.Nat.{pow-suc}
 use mathlib.Core.Path.{_≡_, refl, sym, ap, _∙_}
@@ -12,34 +12,17 @@ use lib.Dec.{leb, ltb}
 use borrow.Author.Tests.{ltb-true, eq-eqb, ne-eqb, lt-ltb, le-ltb, lt-leb, le-leb}
 use Rattle.bit_rows.specs.Sequences.{occurrences}
 use Rattle.bit_rows.proofs.Tests.{and-both, le-or-lt}
-use Rattle.model.specs.Lists.{Within, overwrite}
-use Rattle.model.specs.Queries.{quantile, Pair, flat, pairOf}
+use Rattle.model.specs.Lists.{overwrite}
+use Rattle.model.specs.Queries.{quantile, Pair, flat, pairOf, pair, pairsIn}
 use Rattle.model.specs.TopK.{insertPair, fullList}
-use Rattle.model.proofs.Probing.Method.{pair, enter, mark, State, probe, settled, probe-again, probe-new}
+use Rattle.model.specs.Probing.{enter, mark, probe, settled, Held, Swept, goesOn}
 use Rattle.model.proofs.Probing.Insertion.{length-insert}
-use Rattle.model.proofs.Probing.Held.{Held, held-new, held-sorted, held-few}
+use Rattle.model.proofs.Probing.Held.{held-new, held-sorted, held-few}
 use Rattle.model.proofs.Probing.Probed.{quantile-occurs, quantile-within}
-use Rattle.model.proofs.Probing.Rounds.{Swept, goesOn, swept-stop}
-use Rattle.model.proofs.Probing.Slices.{pairsIn, length-pairs, getD-pairs, overwrite-pairs, drop-more, marked, marked-at, marked-set}
-use Rattle.model.proofs.Probing.Entering.{Room, Entered}
-
--- some are to be listed, the entries are documents below N, and the slices have the room that was asked for
-pub record Lent (N k : ℕ) (xs work out : List ℕ) : Type 0 where
-  pub some : 0 < k
-  pub within : Within N xs
-  pub few : N ≤ 4096
-  pub places : N ≤ length work
-  pub room : 2 * min k N ≤ length out
-
--- the documents marked, and the pairs held
-abbrev pub stateIn : ℕ → List ℕ → List ℕ → ℕ → State
-stateIn N work out held = record { seen = marked N work; candidates = pairsIn out held }
-
--- from n pairs held to m: behind the pairs and behind the marks nothing has changed
-pub record Kept (N n m : ℕ) (work out work′ out′ : List ℕ) : Type 0 where
-  pub more : n ≤ m
-  pub marks : drop N work′ ≡ drop N work
-  pub rest : drop (2 * m) out′ ≡ drop (2 * m) out
+use Rattle.model.proofs.Probing.Rounds.{swept-stop, probe-again, probe-new}
+use Rattle.model.proofs.Pairs.{length-pairs, getD-pairs, overwrite-pairs, drop-more}
+use Rattle.probing.specs.Slices.{marked, Room, Entered, Kept, Lent, Power, stateIn}
+use Rattle.probing.proofs.Laws.Slices.{marked-at, marked-set}
 
 pub kept-refl : (N n : ℕ) (work out : List ℕ) → Kept N n n work out work out
 kept-refl N n work out = record { more = omega arith; marks = refl; rest = refl }
@@ -147,10 +130,6 @@ module _ (out : List ℕ) (held k g : ℕ) where
       go c (inr h) = rw (le-leb c (g - 1) (omega (arith, l)), lt-leb g c h)
 
 -- ---- steps
-
-pub record Power (g : ℕ) : Type 0 where
-  pub exponent : ℕ
-  pub is : g ≡ 2 ^ exponent
 
 pub power-one : Power 1
 power-one = record { exponent = 0; is = refl }

@@ -1,16 +1,14 @@
--- Top-k by quantile probing, after document 004, section 4.2, with a stop that is right for every size of the range. What it
--- gives is `Probing/Theorem.antt`; nothing here has to be believed.
-use Prim.Native.Nat.{ℕ, zero, suc, _+_, _-_, _*_, _^_}
+-- Top-k by quantile probing, after document 004, section 4.2, with a stop that is right for every size of the range: the method, and what holds from
+-- round to round. That it gives the full list is `proofs/Probing/Theorem`.
+use Prim.Native.Nat.{ℕ, zero, suc, _+_, _-_, _*_, _^_, _≤_}
 use mathlib.Core.Path.{_≡_, refl}
 use mathlib.Core.List.{List, [], _∷_}
-use mathlib.Core.Bool.{Bool, true, false, cond, _&&_, _||_}
+use mathlib.Core.Bool.{Bool, true, false, not, cond, _&&_, _||_}
 use lib.ListN.{length, getD, take}
 use lib.Dec.{leb, ltb, eqb}
-use Rattle.model.specs.Queries.{quantile, Pair, pairOf}
-use Rattle.model.specs.TopK.{insertPair, fullList}
-
-abbrev pub pair : ℕ → ℕ → Pair
-pair d c = record { document = d; count = c }
+use Rattle.model.specs.Lists.{keep}
+use Rattle.model.specs.Queries.{quantile, Pair, pair, pairOf, listing}
+use Rattle.model.specs.TopK.{insertPair, ranking, fullList}
 
 -- ---- one probe
 
@@ -35,14 +33,6 @@ abbrev pub probe : ℕ → List ℕ → ℕ → State → State
 probe k xs r s =
     let d = quantile r xs in
     cond (s .seen d) s (record { seen = mark d (s .seen); candidates = enter k (pairOf xs d) (s .candidates) })
-
-module _ (k : ℕ) (xs : List ℕ) (r : ℕ) (s : State) where
-  pub probe-again : s .seen (quantile r xs) ≡ true → probe k xs r s ≡ s
-  probe-again e = rw e
-
-  pub probe-new : s .seen (quantile r xs) ≡ false
-      → probe k xs r s ≡ record { seen = mark (quantile r xs) (s .seen); candidates = enter k (pairOf xs (quantile r xs)) (s .candidates) }
-  probe-new e = rw e
 
 -- ---- one round
 
@@ -80,6 +70,29 @@ exponentTo (suc f) m = let rest = exponentTo f m in cond (leb (2 ^ suc f) m) (su
 
 abbrev pub probing : ℕ → List ℕ → List Pair
 probing k xs = rounds k xs (exponentTo (length xs) (length xs)) (record { seen = unseen; candidates = [] })
+
+-- another round is to come after the one with step g
+abbrev pub goesOn : ℕ → ℕ → List Pair → Bool
+goesOn k g candidates = ltb 1 g && not (settled k g candidates)
+
+-- ---- what holds from round to round
+
+-- the documents seen, with their counts
+abbrev pub seenOf : ℕ → List ℕ → (ℕ → Bool) → List Pair
+seenOf N xs seen = keep (λ p. seen (p .document)) (listing N xs)
+
+-- the candidates are the first k of these
+abbrev pub Held : ℕ → ℕ → List ℕ → (ℕ → Bool) → List Pair → Type 0
+Held N k xs seen candidates = candidates ≡ take k (ranking (seenOf N xs seen))
+
+-- of the ranks g - 1, 2 * g - 1, 3 * g - 1, .. those below r have been probed
+abbrev pub Probed : List ℕ → ℕ → ℕ → (ℕ → Bool) → Type 0
+Probed xs g r seen = (c : ℕ) → c * g + g ≤ r → c * g + g ≤ length xs → seen (quantile (c * g + g - 1) xs) ≡ true
+
+-- after the round with step g, and before the one with half that step
+pub record Swept (N k : ℕ) (xs : List ℕ) (g : ℕ) (seen : ℕ → Bool) (candidates : List Pair) : Type 0 where
+  pub held : Held N k xs seen candidates
+  pub probed : Probed xs g (length xs) seen
 
 -- ---- an example: the range at which the rule as printed stops one round early and gives (2, 2) for k = 1
 

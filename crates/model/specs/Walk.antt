@@ -1,18 +1,32 @@
--- How code walks over the rows of a wavelet tree, one row at each step. The rows are given as a function of their number.
+-- Places in a wavelet tree, and how code walks over its rows, one row at each step. Document 01, "Bit rows"; document 004, section 3.1.
+-- The rows are given as a function of their number.
 use Prim.Native.Nat.{ℕ, zero, suc, _+_, _-_, _*_, _/_, _%_, _^_}
 use mathlib.Core.List.{List}
 use mathlib.Core.Bool.{cond}
-use lib.ListN.{getD, take}
+use lib.ListN.{take}
 use lib.Dec.{ltb, eqb}
 use Rattle.bit_rows.specs.Sequences.{tally, rank, select}
 
--- ---- places in the node that starts at s and ends at e
+-- ---- where a node's entries stand in its row
+
+-- the node of depth j that holds v
+abbrev pub key : ℕ → ℕ → ℕ → ℕ
+key h j v = v / 2 ^ (h - j)
+
+-- in an arrangement by the key k, where those of node q end that come from the first a entries
+abbrev pub posOf : (ℕ → ℕ) → List ℕ → ℕ → ℕ → ℕ
+posOf k xs q a = tally (λ v. ltb (k v) q) xs + tally (λ v. eqb (k v) q) (take a xs)
+
+abbrev pub pos : ℕ → List ℕ → ℕ → ℕ → ℕ → ℕ
+pos h xs j q a = posOf (key h j) xs q a
+
+-- ---- from a place p of the node that starts at s and ends at e to its halves
 
 -- the zeros between two places
 abbrev pub zerosIn : List ℕ → ℕ → ℕ → ℕ
 zerosIn bits s p = (p - s) - (rank 1 bits p - rank 1 bits s)
 
--- from a place p of the node to its low half, which starts at s, and to its high half, which ends at e
+-- in the low half, which starts at s, and in the high half, which ends at e
 abbrev pub left : List ℕ → ℕ → ℕ → ℕ
 left bits s p = s + zerosIn bits s p
 
@@ -20,19 +34,6 @@ abbrev pub right : List ℕ → ℕ → ℕ → ℕ → ℕ
 right bits s e p = s + zerosIn bits s e + (rank 1 bits p - rank 1 bits s)
 
 -- ---- the walks: m more rows, the next of them row j
-
--- the entry at place p: in the node q
-abbrev pub accessFrom : (ℕ → List ℕ) → ℕ → ℕ → ℕ → ℕ → ℕ → ℕ → ℕ
-accessFrom rows zero j q s p e = q
-accessFrom rows (suc m) j q s p e =
-    let b = rows j in
-    let mid = left b s e in
-    let low = accessFrom rows m (suc j) (2 * q) s (left b s p) mid in
-    let high = accessFrom rows m (suc j) (2 * q + 1) mid (right b s e p) e in
-    cond (eqb (getD b p 0) 1) high low
-
-abbrev pub accessWalk : (ℕ → List ℕ) → ℕ → ℕ → ℕ → ℕ
-accessWalk rows h n i = accessFrom rows h 0 0 0 i n
 
 -- how many entries before place p are v: down by the bits of v
 abbrev pub rankFrom : (ℕ → List ℕ) → ℕ → ℕ → ℕ → ℕ → ℕ → ℕ → ℕ
@@ -46,20 +47,6 @@ rankFrom rows v (suc m) j s p e =
 
 abbrev pub rankWalk : (ℕ → List ℕ) → ℕ → ℕ → ℕ → ℕ → ℕ
 rankWalk rows h n v i = rankFrom rows v h 0 0 i n
-
--- how many entries from lo up to but without hi are below v: at each one of v the low half is
-abbrev pub countBelowFrom : (ℕ → List ℕ) → ℕ → ℕ → ℕ → ℕ → ℕ → ℕ → ℕ → ℕ
-countBelowFrom rows v zero j s lo hi e = 0
-countBelowFrom rows v (suc m) j s lo hi e =
-    let b = rows j in
-    let mid = left b s e in
-    let low = countBelowFrom rows v m (suc j) s (left b s lo) (left b s hi) mid in
-    let high = zerosIn b lo hi + countBelowFrom rows v m (suc j) mid (right b s e lo) (right b s e hi) e in
-    cond (eqb (v / 2 ^ m % 2) 1) high low
-
--- of the part from a up to but without b; all of it where v is no number of h bits
-abbrev pub countBelowWalk : (ℕ → List ℕ) → ℕ → ℕ → ℕ → ℕ → ℕ → ℕ
-countBelowWalk rows h n v a b = cond (ltb v (2 ^ h)) (countBelowFrom rows v h 0 0 a b n) (b - a)
 
 module _ {A : Type 0} (leaf : ℕ → ℕ → A) where
   -- the entry of rank r among those from lo up to but without hi, in the node q: what is made of it and of how many of them are like it
@@ -89,16 +76,3 @@ selectFrom rows v (suc m) j s e k =
 -- the place of the i-th entry v, i from 1
 abbrev pub selectWalk : (ℕ → List ℕ) → ℕ → ℕ → ℕ → ℕ → ℕ
 selectWalk rows h n v i = selectFrom rows v h 0 0 n (i - 1)
-
--- ---- what the places are
-
--- the node of depth j that holds v
-abbrev pub key : ℕ → ℕ → ℕ → ℕ
-key h j v = v / 2 ^ (h - j)
-
--- in an arrangement by the key k, where those of node q end that come from the first a entries
-abbrev pub posOf : (ℕ → ℕ) → List ℕ → ℕ → ℕ → ℕ
-posOf k xs q a = tally (λ v. ltb (k v) q) xs + tally (λ v. eqb (k v) q) (take a xs)
-
-abbrev pub pos : ℕ → List ℕ → ℕ → ℕ → ℕ → ℕ
-pos h xs j q a = posOf (key h j) xs q a
