@@ -18,10 +18,15 @@ use Rattle.archive.specs.declared.Opening.{Opening}
 use Rattle.archive.specs.declared.Opening.the-variants.{Accepted, Refused}
 use Rattle.archive.specs.Layout.{sizesIn, layoutOf, Fitting}
 
--- the answer for each case of document 01: n, N and W in the layout that follows from them, or the number of the refusal
-abbrev pub openedAs : Outcome Sizes → Opening
-openedAs (answered s) = Accepted (layoutOf s)
-openedAs (refused number) = Refused number
+-- document 01's number and values for each case of the answer: n, N and W, or the number of the refusal
+abbrev pub openingOf : Opening → Outcome Sizes
+openingOf (Accepted l) = answered (sizesIn l)
+openingOf (Refused number) = refused number
+
+-- a layout that is answered is the one that follows from n, N and W
+abbrev pub LaidOut : Opening → Type 0
+LaidOut (Accepted l) = l ≡ layoutOf (sizesIn l)
+LaidOut (Refused number) = Unit {0}
 
 -- the bytes have the length that a layout within the limits gives
 pub record Laid (bytes : List ℕ) (l : Layout) : Type 0 where

@@ -17,7 +17,7 @@ ghost use Rattle.wavelet.specs.Levels.{Stored, entriesIn};
 ghost use Rattle.model.specs.Lists.{any};
 ghost use Rattle.model.specs.Opening.{pairsHold, tableHolds, opening};
 ghost use Rattle.archive.specs.Layout.{sizesIn, Fitting};
-ghost use Rattle.archive.specs.Opening.{openedAs, Laid, Placed, sampledAt, clearAt, levelsOutcome, partsOutcome};
+ghost use Rattle.archive.specs.Opening.{openingOf, LaidOut, Laid, Placed, sampledAt, clearAt, levelsOutcome, partsOutcome};
 
 // Whether the pair of numbers at an offset is the given one.
 fn pair_is(archive: &[u8], at: usize, offset: usize, size: usize) -> bool
@@ -133,7 +133,7 @@ fn entries_hold(archive: &[u8], t: Levels, documents: usize) -> bool
 // Refusals 7 to 9, or the layout.
 fn check_levels(archive: &[u8], l: Layout) -> Opening
     requires { ⌜ Laid (now archive) l ⌝ }
-    ensures { λ r. ⌜ r ≡ openedAs (levelsOutcome (now (archive .entry)) l) ⌝ }
+    ensures { λ r. ⌜ (openingOf r ≡ levelsOutcome (now (archive .entry)) l) × LaidOut r ⌝ }
 {
     let t = l.levels;
     if !samples_hold(archive, t) {
@@ -152,7 +152,7 @@ fn check_levels(archive: &[u8], l: Layout) -> Opening
 fn check_parts(archive: &[u8], l: Layout) -> Opening
     requires { ⌜ 40 ≤ length (now archive) ⌝ }
     requires { ⌜ Fitting l ⌝ }
-    ensures { λ r. ⌜ r ≡ openedAs (partsOutcome (now (archive .entry)) l) ⌝ }
+    ensures { λ r. ⌜ (openingOf r ≡ partsOutcome (now (archive .entry)) l) × LaidOut r ⌝ }
 {
     if !pairs_hold(archive, l) {
         return Opening::Refused(4);
@@ -168,7 +168,7 @@ fn check_parts(archive: &[u8], l: Layout) -> Opening
 
 // The check on opening: the layout of an accepted archive, or the lowest refusal that applies.
 pub fn open(archive: &[u8]) -> Opening
-    ensures { λ r. ⌜ r ≡ openedAs (opening (now (archive .entry))) ⌝ }
+    ensures { λ r. ⌜ (openingOf r ≡ opening (now (archive .entry))) × LaidOut r ⌝ }
 {
     if archive.len() < 40 {
         return Opening::Refused(1);

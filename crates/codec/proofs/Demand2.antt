@@ -17,9 +17,10 @@ use Rattle.model.proofs.Format.Valid.{valid-archive}
 use Rattle.model.proofs.Format.Theorem.{read-written, write-read, library-unique}
 use Rattle.model.specs.Demand2.{AnswersOver}
 use Rattle.model.proofs.Questions.{archive-answers}
-use Rattle.archive.specs.declared.Opening.the-variants.{Accepted}
-use Rattle.archive.specs.Layout.{layoutOf}
-use Rattle.archive.specs.Opening.{openedAs}
+use Rattle.archive.specs.declared.Opening.{Opening}
+use Rattle.archive.specs.declared.Opening.the-variants.{Accepted, Refused}
+use Rattle.archive.specs.Layout.{sizesIn, layoutOf}
+use Rattle.archive.specs.Opening.{openingOf, LaidOut}
 
 -- ---- what an answer of the writer says
 
@@ -90,8 +91,12 @@ was-read bytes entries lengths s entries′ lengths′ p = go (opening bytes) re
 module _ (lib : Library) (target after : List ℕ) (n : ℕ)
     (answer : _≡_ {A = WriteResult} (record { outcome = answered n; target = after }) (writeResult lib target)) where
   -- the check on opening answers the library's n, N and W
-  pub written-opened : openedAs (opening (take n after)) ≡ Accepted (layoutOf (sizesOf lib))
-  written-opened = ap openedAs (read-written lib (take n after) (wrote lib target n after answer .archive) .0)
+  pub written-opened : (r : Opening) → (openingOf r ≡ opening (take n after)) × LaidOut r → r ≡ Accepted (layoutOf (sizesOf lib))
+  written-opened r (same, shape) = go r shape (same ∙ read-written lib (take n after) (wrote lib target n after answer .archive) .0)
+    where
+      go : (r : Opening) → LaidOut r → openingOf r ≡ answered (sizesOf lib) → r ≡ Accepted (layoutOf (sizesOf lib))
+      go (Accepted l) shape e = let sizes : sizesIn l ≡ sizesOf lib = cc in ap Accepted (shape ∙ ap layoutOf sizes)
+      go (Refused number) shape e = let z : _≡_ {A = ℕ} 0 1 = cc in absurd (omega arith)
 
   -- the reader answers n, N and W, and fills in the library's two lists
   pub written-read : (entries lengths : List ℕ) → length (lib .entries) ≤ length entries → length (lib .lengths) ≤ length lengths

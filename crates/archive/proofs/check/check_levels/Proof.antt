@@ -19,7 +19,7 @@ returns c =
     let s = c .before .before .before .before .args in
     let e : all (sampledAt (s .archive .now) (s .l .levels)) (below (s .l .levels .height)) ≡ false
     = sym (c .before .samples-hold .ensures) ∙ not-true (c .before .samples-hold .result) (c .if1 .taken) in
-    rw e
+    (rw e, tt)
 
 sampled : (c : tie.Else1) → all (sampledAt (c .before .before .before .before .args .archive .now) (c .before .before .before .before .args .l .levels)) (below (c .before .before .before .before .args .l .levels .height)) ≡ true
 sampled c = sym (c .before .samples-hold .ensures) ∙ not-false (c .before .samples-hold .result) (c .if1 .left)
@@ -32,7 +32,7 @@ returns-2 c =
     let s = c .before .before .before .before .before .before .args in
     let e : all (clearAt (s .archive .now) (s .l .levels)) (below (s .l .levels .height)) ≡ false
     = sym (c .before .unused-hold .ensures) ∙ not-true (c .before .unused-hold .result) (c .if2 .taken) in
-    rw (sampled (c .before .before), e)
+    (rw (sampled (c .before .before), e), tt)
 
 clear : (c : tie.Else2) → all (clearAt (c .before .before .before .before .before .before .args .archive .now) (c .before .before .before .before .before .before .args .l .levels)) (below (c .before .before .before .before .before .before .args .l .levels .height)) ≡ true
 clear c = sym (c .before .unused-hold .ensures) ∙ not-false (c .before .unused-hold .result) (c .if2 .left)
@@ -47,15 +47,14 @@ returns-3 c =
     let s = c .before .before .before .before .before .before .before .before .args in
     let e : not (any (leb (s .l .documents)) (entriesIn (s .archive .now) (s .l .levels))) ≡ false
     = sym (c .before .entries-hold .ensures) ∙ not-true (c .before .entries-hold .result) (c .if3 .taken) in
-    rw (sampled (c .before .before .before .before), clear (c .before .before), not-false (any (leb (s .l .documents)) (entriesIn (s .archive .now) (s .l .levels))) e)
+    (rw (sampled (c .before .before .before .before), clear (c .before .before), not-false (any (leb (s .l .documents)) (entriesIn (s .archive .now) (s .l .levels))) e), tt)
 
 returns-4 : tie.Need-returns-4
 returns-4 c =
     let s = c .before .before .before .before .before .before .before .before in
     let e : not (any (leb (s .args .l .documents)) (entriesIn (s .args .archive .now) (s .args .l .levels))) ≡ true
     = sym (c .before .entries-hold .ensures) ∙ not-false (c .before .entries-hold .result) (c .if3 .left) in
-    rw (sampled (c .before .before .before .before), clear (c .before .before), not-true (any (leb (s .args .l .documents)) (entriesIn (s .args .archive .now) (s .args .l .levels))) e)
-    (ap Accepted (s .pre .fitting .shape))
+    (rw (sampled (c .before .before .before .before), clear (c .before .before), not-true (any (leb (s .args .l .documents)) (entriesIn (s .args .archive .now) (s .args .l .levels))) e), s .pre .fitting .shape)
 
 pub check-levels-spec : {M : Type 1} → statement M
 check-levels-spec =

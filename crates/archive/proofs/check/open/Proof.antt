@@ -5,14 +5,13 @@ use borrow.Author.Tests.{not-true, not-false}
 use Rattle.model.specs.Format.{Sizes, withinLimits}
 use Rattle.model.specs.Opening.{sizesAt}
 use Rattle.archive.specs.Layout.{layoutOf, Fitting}
-use Rattle.archive.specs.Opening.{openedAs}
 use Rattle.model.proofs.Format.Valid.{limits-of}
 use Rattle.archive.proofs.Acceptance.{short-refused, edition-refused, limits-refused, opening-parts}
 use Rattle.archive.proofs.check.open.Statement.{statement}
 use Rattle.archive.proofs.check.open.Tie as tie
 
 returns : tie.Need-returns
-returns c = ap openedAs (sym (short-refused (c .before .before .args .archive .now) (c .if1 .taken)))
+returns c = (sym (short-refused (c .before .before .args .archive .now) (c .if1 .taken)), tt)
 
 number-requires : tie.Need-number-requires
 number-requires c κs = search needs
@@ -20,7 +19,7 @@ number-requires c κs = search needs
 returns-2 : tie.Need-returns-2
 returns-2 c =
     let bytes = c .before .before .before .before .args .archive .now in
-    ap openedAs (sym (edition-refused bytes (c .before .before .if1 .left) (λ e. c .if2 .taken (c .before .number .ensures .0 ∙ e))))
+    (sym (edition-refused bytes (c .before .before .if1 .left) (λ e. c .if2 .taken (c .before .number .ensures .0 ∙ e))), tt)
 
 number-requires-2 : tie.Need-number-requires-2
 number-requires-2 c κs = search needs
@@ -46,7 +45,7 @@ returns-3 : tie.Need-returns-3
 returns-3 c =
     let bytes = c .before .before .before .before .before .before .before .before .before .args .archive .now in
     let e : withinLimits (sizesAt bytes) ≡ false = ap withinLimits (sizes (c .before .before)) ∙ sym (c .before .within-limits .ensures) ∙ not-true (c .before .within-limits .result) (c .if3 .taken) in
-    ap openedAs (sym (limits-refused bytes (c .before .before .before .before .before .before .before .if1 .left) (sym (c .before .before .before .before .before .before .number .ensures .0) ∙ c .before .before .before .before .before .if2 .left) e))
+    (sym (limits-refused bytes (c .before .before .before .before .before .before .before .if1 .left) (sym (c .before .before .before .before .before .before .number .ensures .0) ∙ c .before .before .before .before .before .if2 .left) e), tt)
 
 -- n, N and W, which are within their limits
 abbrev read : tie.Else3 → Sizes
@@ -70,12 +69,13 @@ check-parts-requires c κs =
 returns-4 : tie.Need-returns-4
 returns-4 c =
     let bytes = c .before .before .before .before .before .before .before .before .before .before .before .args .archive .now in
-    let e = sizes (c .before .before .before .before) in
-    c .check-parts .ensures
-    ∙ ap openedAs
-    (sym
-    (opening-parts bytes (c .before .layout-of .result) (c .before .before .before .before .before .before .before .before .before .if1 .left) (sym (c .before .before .before .before .before .before .before .before .number .ensures .0) ∙ c .before .before .before .before .before .before .before .if2 .left)
-    (ap withinLimits e ∙ within (c .before .before)) (c .before .layout-of .ensures ∙ ap layoutOf (sym e))))
+    let e = sizes (c .before .before .before .before) in (
+      c .check-parts .ensures .0
+          ∙ sym
+          (opening-parts bytes (c .before .layout-of .result) (c .before .before .before .before .before .before .before .before .before .if1 .left) (sym (c .before .before .before .before .before .before .before .before .number .ensures .0) ∙ c .before .before .before .before .before .before .before .if2 .left)
+          (ap withinLimits e ∙ within (c .before .before)) (c .before .layout-of .ensures ∙ ap layoutOf (sym e))),
+      c .check-parts .ensures .1,
+    )
 
 pub open-spec : {M : Type 1} → statement M
 open-spec =

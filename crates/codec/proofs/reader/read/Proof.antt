@@ -1,4 +1,3 @@
-use mathlib.Core.Path.{sym, _∙_}
 use borrow.Author.Needs.{needs}
 use Rattle.archive.proofs.Acceptance.{opened-of, refused-of}
 use Rattle.codec.proofs.reader.read.Statement.{statement}
@@ -16,12 +15,12 @@ enum-known-l c = search needs
 read-opened-requires : tie.Need-read-opened-requires
 read-opened-requires c κs =
     let g = c .before .before .before .l .given in
-    opened-of (c .before .before .before .before .before .before .before .before .before .args .archive .now) (g .0 .0) (sym (c .before .before .before .before .before .open .ensures) ∙ g .1)
+    opened-of (c .before .before .before .before .before .before .before .before .before .args .archive .now) (c .before .before .before .before .before .open .ensures) (g .0 .0) (g .1)
 
 returns : tie.Need-returns
 returns c =
     let g = c .before .number .given in
-    rw (refused-of (c .before .before .before .before .before .before .before .args .archive .now) (g .0 .0) (sym (c .before .before .before .open .ensures) ∙ g .1))
+    rw (refused-of (c .before .before .before .before .before .before .before .args .archive .now) (c .before .before .before .open .ensures) (g .0 .0) (g .1))
 
 same-length : tie.Need-same-length
 same-length c = search needs

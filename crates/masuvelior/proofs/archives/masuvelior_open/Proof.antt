@@ -21,7 +21,7 @@ sizes-requires : tie.Need-sizes-requires
 sizes-requires c κs =
     let bytes = c .before .before .before .before .before .before .before .before .args .archive .now in
     let l = c .before .before .before .before .l .given in
-    limits-narrow (sizesIn (l .0 .0)) (limits bytes (l .0 .0) (opened-of bytes (l .0 .0) (sym (c .before .before .before .before .before .before .open .ensures) ∙ l .1)))
+    limits-narrow (sizesIn (l .0 .0)) (limits bytes (l .0 .0) (opened-of bytes (c .before .before .before .before .before .before .open .ensures) (l .0 .0) (l .1)))
 
 enum-known-number : tie.Need-enum-known-number
 enum-known-number c = search needs
@@ -31,7 +31,7 @@ unfolding given
 returns c =
     let g = c .before .before .before .before .before .before .before .before .before .args in
     let l = c .before .before .before .before .before .l .given in
-    let o = opened-of (g .archive .now) (l .0 .0) (sym (c .before .before .before .before .before .before .before .open .ensures) ∙ l .1) in
+    let o = opened-of (g .archive .now) (c .before .before .before .before .before .before .before .open .ensures) (l .0 .0) (l .1) in
     c .sizes .ensures ∙ sym (ap (λ (x : Outcome Sizes). given sizes x (g .n .now ∷ g .documents .now ∷ g .terms .now ∷ [])) (o .accepted))
 
 returns-2 : tie.Need-returns-2
@@ -39,7 +39,7 @@ unfolding given
 returns-2 c =
     let g = c .before .before .before .before .before .args in
     let x = c .before .number .given in
-    sym (ap (λ (o : Outcome Sizes). given sizes o (g .n .now ∷ g .documents .now ∷ g .terms .now ∷ [])) (refused-of (g .archive .now) (x .0 .0) (sym (c .before .before .before .open .ensures) ∙ x .1)))
+    sym (ap (λ (o : Outcome Sizes). given sizes o (g .n .now ∷ g .documents .now ∷ g .terms .now ∷ [])) (refused-of (g .archive .now) (c .before .before .before .open .ensures) (x .0 .0) (x .1)))
 
 pub masuvelior-open-spec : {M : Type 1} → statement M
 masuvelior-open-spec = tie.close (tie.spec open-requires enum-known-l sizes-requires enum-known-number returns returns-2)

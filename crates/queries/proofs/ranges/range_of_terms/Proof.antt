@@ -1,11 +1,6 @@
 use borrow.Author.Needs.{needs}
-use mathlib.Core.Path.{_≡_, _∙_}
-use Rattle.model.specs.Opening.{opening}
-use Rattle.archive.specs.declared.Layout.{Layout}
-use Rattle.archive.specs.declared.Opening.the-variants.{Accepted, Refused}
-use Rattle.archive.specs.Opening.{openedAs}
+use mathlib.Core.Path.{_∙_}
 use Rattle.archive.proofs.Acceptance.{opened-of, refused-of}
-use Prim.Native.Nat.{ℕ}
 use Rattle.model.specs.Queries.{ofTerms}
 use Rattle.queries.proofs.Results.{range-is}
 use Rattle.queries.proofs.ranges.range_of_terms.Statement.{statement}
@@ -21,9 +16,8 @@ term-range-requires : tie.Need-term-range-requires
 term-range-requires c κs =
     let s = c .before .before .before .before .before in
     let g = s .args in
-    let l : Layout = c .before .l .given .0 .0 in
-    let e : openedAs (opening (g .archive .now)) ≡ Accepted l = cc in
-    let o = opened-of (g .archive .now) l e in
+    let l = c .before .l .given in
+    let o = opened-of (g .archive .now) (c .before .before .before .open .ensures) (l .0 .0) (l .1) in
     o
 
 enum-known-number : tie.Need-enum-known-number
@@ -33,17 +27,15 @@ returns : tie.Need-returns
 returns c =
     let s = c .before .before .before .before .before .before in
     let g = s .args in
-    let l : Layout = c .before .before .l .given .0 .0 in
-    let e : openedAs (opening (g .archive .now)) ≡ Accepted l = cc in
-    let o = opened-of (g .archive .now) l e in
-    c .term-range .ensures .0 ∙ range-is (g .archive .now) l o (ofTerms (g .first) (g .last))
+    let l = c .before .before .l .given in
+    let o = opened-of (g .archive .now) (c .before .before .before .before .open .ensures) (l .0 .0) (l .1) in
+    c .term-range .ensures .0 ∙ range-is (g .archive .now) (l .0 .0) o (ofTerms (g .first) (g .last))
 
 returns-2 : tie.Need-returns-2
 returns-2 c =
     let g = c .before .before .before .before .before .args in
-    let x : ℕ = c .before .number .given .0 .0 in
-    let e : openedAs (opening (g .archive .now)) ≡ Refused x = cc in
-    rw (refused-of (g .archive .now) x e)
+    let x = c .before .number .given in
+    rw (refused-of (g .archive .now) (c .before .before .before .open .ensures) (x .0 .0) (x .1))
 
 pub range-of-terms-spec : {M : Type 1} → statement M
 range-of-terms-spec =

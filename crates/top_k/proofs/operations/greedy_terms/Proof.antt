@@ -1,5 +1,4 @@
 -- `greedy_terms`: the opening is refused, or the question is that of the opened archive.
-use mathlib.Core.Path.{sym, _∙_}
 use Rattle.archive.proofs.Acceptance.{opened-of, refused-of}
 use borrow.Author.Needs.{needs}
 use Rattle.top_k.proofs.operations.greedy_terms.Statement.{statement}
@@ -17,12 +16,12 @@ enum-known-layout c = search needs
 greedy-terms-opened-requires : tie.Need-greedy-terms-opened-requires
 greedy-terms-opened-requires c κs =
     let g = c .before .before .before .layout .given in
-    opened-of (c .before .before .before .before .before .before .before .before .before .args .archive .now) (g .0 .0) (sym (c .before .before .before .before .before .open .ensures) ∙ g .1)
+    opened-of (c .before .before .before .before .before .before .before .before .before .args .archive .now) (c .before .before .before .before .before .open .ensures) (g .0 .0) (g .1)
 
 returns : tie.Need-returns
 returns c =
     let g = c .before .number .given in
-    rw (refused-of (c .before .before .before .before .before .before .before .args .archive .now) (g .0 .0) (sym (c .before .before .before .open .ensures) ∙ g .1))
+    rw (refused-of (c .before .before .before .before .before .before .before .args .archive .now) (c .before .before .before .open .ensures) (g .0 .0) (g .1))
 
 same-length : tie.Need-same-length
 same-length c = search needs
