@@ -8,6 +8,7 @@ use Rattle.bit_rows.specs.Sequences.{tally}
 use Rattle.bit_rows.specs.Bits.{bitAt, rowBytes}
 use Rattle.model.specs.Outcome.{Outcome, answered, refused}
 use Rattle.model.specs.Format.{Sizes}
+use Rattle.model.specs.Opening.{ReadResult}
 use Rattle.wavelet.specs.declared.Levels.{Levels}
 use Rattle.wavelet.specs.Levels.{entriesIn}
 use Rattle.codec.specs.declared.Reading.{Reading}
@@ -43,7 +44,11 @@ pub record Readable (bytes : List ℕ) (t : Levels) : Type 0 where
 abbrev pub keysAt : List ℕ → Levels → ℕ → List ℕ
 keysAt bytes t j = map (λ v. v / 2 ^ (t .height - j)) (entriesIn bytes t)
 
--- document 01's number and values for each answer
+-- document 01's number and values for each case of the answer
 abbrev pub readingOf : Reading → Outcome Sizes
 readingOf (Read n d w) = answered (record { entries = n; documents = d; terms = w })
 readingOf (Refused number) = refused number
+
+-- the answer, with the final content of the two lists
+abbrev pub readingIs : Reading → List ℕ → List ℕ → ReadResult
+readingIs r entries lengths = record { outcome = readingOf r; entries = entries; lengths = lengths }

@@ -7,7 +7,7 @@ use Rattle.bit_rows.specs.Bits.{pack, samplesOf, rowBytes, sampleCount}
 use Rattle.model.specs.Lists.{Within}
 use Rattle.model.specs.Outcome.{Outcome, answered, refused}
 use Rattle.model.specs.Rows.{row}
-use Rattle.model.specs.Format.{Library, sizesOf, archiveLength, encode, archiveOf}
+use Rattle.model.specs.Format.{Library, sizesOf, archiveLength, encode, archiveOf, WriteResult}
 use Rattle.wavelet.specs.declared.Levels.{Levels}
 use Rattle.wavelet.specs.Levels.{samplesIn, rowIn}
 use Rattle.archive.specs.declared.Layout.{Layout}
@@ -49,7 +49,11 @@ pub record Writable (lib : Library) (l : Layout) (target : List ℕ) : Type 0 wh
   pub shape : l ≡ layoutOf (sizesOf lib)
   pub fits : archiveLength (sizesOf lib) ≤ length target
 
--- document 01's number and value for each answer
+-- document 01's number and value for each case of the answer
 abbrev pub writtenOf : Written → Outcome ℕ
 writtenOf (Length n) = answered n
 writtenOf (Refused number) = refused number
+
+-- the answer, with the final content of the target
+abbrev pub writtenIs : Written → List ℕ → WriteResult
+writtenIs r target = record { outcome = writtenOf r; target = target }

@@ -18,7 +18,7 @@ ghost use Rattle.model.specs.Opening.{lengthAt, contents, readResult};
 ghost use Rattle.wavelet.specs.Levels.{entriesIn};
 ghost use Rattle.codec.specs.Keys.{Zeros};
 ghost use Rattle.archive.specs.Layout.{Opened};
-ghost use Rattle.codec.specs.Reading.{Descent, Deepened, Readable, keysAt, readingOf};
+ghost use Rattle.codec.specs.Reading.{Descent, Deepened, Readable, keysAt, readingIs};
 
 // Appends to each key its bit of the row, which stands at the next free place of the key.
 fn deepen(row: &[u8], next: &mut [u32], keys: &mut [u32])
@@ -105,7 +105,8 @@ pub fn read_in(archive: &[u8], l: Layout, entries: &mut [u32], lengths: &mut [u3
 // Refusal 12, or n, N and W.
 pub fn read_opened(archive: &[u8], l: Layout, entries: &mut [u32], lengths: &mut [u32]) -> Reading
     requires { ⌜ Opened (now archive) l ⌝ }
-    ensures { λ r. ⌜ record { outcome = readingOf r; entries = now (entries .exit); lengths = now (lengths .exit) } ≡ readResult (now (archive .entry)) (now (entries .entry)) (now (lengths .entry)) ⌝ }
+    ensures { λ r. ⌜ readingIs r (now (entries .exit)) (now (lengths .exit))
+        ≡ readResult (now (archive .entry)) (now (entries .entry)) (now (lengths .entry)) ⌝ }
 {
     let n = l.levels.entries;
     let terms = l.terms;
@@ -125,7 +126,8 @@ pub fn read_opened(archive: &[u8], l: Layout, entries: &mut [u32], lengths: &mut
 
 // The reader: the entries and the term lengths in the front of two slices, and n, N and W, or the lowest refusal that applies.
 pub fn read(archive: &[u8], entries: &mut [u32], lengths: &mut [u32]) -> Reading
-    ensures { λ r. ⌜ record { outcome = readingOf r; entries = now (entries .exit); lengths = now (lengths .exit) } ≡ readResult (now (archive .entry)) (now (entries .entry)) (now (lengths .entry)) ⌝ }
+    ensures { λ r. ⌜ readingIs r (now (entries .exit)) (now (lengths .exit))
+        ≡ readResult (now (archive .entry)) (now (entries .entry)) (now (lengths .entry)) ⌝ }
 {
     match open(archive) {
         Opening::Refused(number) => Reading::Refused(number),

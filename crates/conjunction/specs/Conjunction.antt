@@ -11,11 +11,15 @@ use Rattle.conjunction.specs.declared.common.Next.{Next}
 use Rattle.conjunction.specs.declared.common.Next.the-variants.{Document, Nothing}
 use Rattle.conjunction.specs.declared.Terms.{Terms}
 
+-- the terms that the question holds
+abbrev pub termsOf : Terms → List ℕ
+termsOf q = take (q .size) (q .numbers)
+
 -- one to eight terms, all of them among the W terms
 pub record Asked (W : ℕ) (q : Terms) : Type 0 where
   pub some : 1 ≤ q .size
   pub few : q .size ≤ 8
-  pub known : Within W (take (q .size) (q .numbers))
+  pub known : Within W (termsOf q)
 
 -- the sum of some counts; 0 where one of them is 0
 abbrev pub commonCount : List ℕ → ℕ

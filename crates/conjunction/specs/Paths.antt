@@ -10,10 +10,11 @@ use Rattle.model.specs.Opening.{contents}
 use Rattle.model.specs.Queries.{termStart}
 use Rattle.wavelet.specs.declared.Span.{Span}
 use Rattle.wavelet.specs.declared.Halves.{Halves}
+use Rattle.wavelet.specs.declared.Ranked.{Ranked}
 use Rattle.conjunction.specs.declared.common.Next.{Next}
 use Rattle.conjunction.specs.declared.common.Next.the-variants.{Document, Nothing}
 use Rattle.wavelet.specs.Levels.{entriesIn}
-use Rattle.wavelet.specs.Spans.{spanOf}
+use Rattle.wavelet.specs.Spans.{spanOf, spanIn, halvesOf}
 use Rattle.archive.specs.declared.Layout.{Layout}
 use Rattle.conjunction.specs.declared.Terms.{Terms}
 use Rattle.conjunction.specs.declared.common.Node.{Node}
@@ -37,6 +38,13 @@ rangeIn path frame k = record {
 -- its entries
 abbrev pub countAt : List ℕ → ℕ → ℕ → ℕ
 countAt path frame k = rangeIn path frame k .hi - rangeIn path frame k .lo
+
+-- a pair of the path as a range in a node, and that range in the halves of the node, whose level has the given bits
+abbrev pub pairIn : Ranked → List ℕ → ℕ → Span
+pairIn node path pair = spanIn node (getD path (2 * pair) 0) (getD path (2 * pair + 1) 0)
+
+abbrev pub halvesIn : List ℕ → Ranked → List ℕ → ℕ → Halves
+halvesIn bits node path pair = halvesOf bits (pairIn node path pair)
 
 -- a range in both halves of a node: one pair in the frame of each
 abbrev pub putHalves : Halves → ℕ → List ℕ → List ℕ

@@ -6,12 +6,12 @@ use archive::Layout;
 ghost use mathlib.Core.Path.{_≡_};
 ghost use mathlib.Core.List.{map};
 ghost use Prim.Native.Nat.{_+_, _-_, _*_, _^_, _≤_, _<_};
-ghost use lib.ListN.{length, take};
+ghost use lib.ListN.{length};
 ghost use Rattle.bit_rows.specs.Sequences.{below};
 ghost use Rattle.model.specs.Opening.{contents};
 ghost use Rattle.model.specs.Queries.{countsUnder};
 ghost use Rattle.archive.specs.Layout.{Opened};
-ghost use Rattle.conjunction.specs.Conjunction.{Asked, commonCount, nextOf, nextCommon};
+ghost use Rattle.conjunction.specs.Conjunction.{termsOf, Asked, commonCount, nextOf, nextCommon};
 ghost use Rattle.conjunction.specs.Paths.{countAt, termSpan, Ready, HeldAt, afterOf, resumeOf};
 
 // What the search for the next document answers: the document with the sum of its counts, or nothing.
@@ -83,7 +83,8 @@ pub fn next_common(archive: &[u8], l: Layout, q: Terms, from: usize, path: &mut 
     requires { ⌜ Opened (now archive) l ⌝ }
     requires { ⌜ Asked (l .terms) q × (length (now path) ≡ 468) × (from ≤ 2 ^ l .levels .height) ⌝ }
     requires { ⌜ Ready (termSpan (now archive) l q) (q .size) (now path) (l .levels .height) from ⌝ }
-    ensures { λ r. ⌜ (nextOf r ≡ nextCommon (countsUnder (contents (now (archive .entry))) (take (q .size) (q .numbers))) (l .levels .height) from) × HeldAt (termSpan (now (archive .entry)) l q) (q .size) (now (path .exit)) (l .levels .height) r ⌝ }
+    ensures { λ r. ⌜ (nextOf r ≡ nextCommon (countsUnder (contents (now (archive .entry))) (termsOf q)) (l .levels .height) from)
+        × HeldAt (termSpan (now (archive .entry)) l q) (q .size) (now (path .exit)) (l .levels .height) r ⌝ }
 {
     let size = q.size as usize;
     let height = l.levels.height;

@@ -10,20 +10,21 @@ use queries::Answer;
 use queries::put_pair;
 ghost use mathlib.Core.Path.{_≡_};
 ghost use Prim.Native.Nat.{_*_, _≤_};
-ghost use lib.ListN.{length, take};
+ghost use lib.ListN.{length};
 ghost use lib.Dec.{leb};
-ghost use Rattle.model.specs.Lists.{any, overwrite};
+ghost use Rattle.model.specs.Lists.{any};
 ghost use Rattle.model.specs.Opening.{contents};
 ghost use Rattle.model.specs.Queries as model;
 ghost use Rattle.archive.specs.Layout.{Opened};
 ghost use Rattle.queries.specs.Answers.{pairsOf};
-ghost use Rattle.conjunction.specs.Conjunction.{Asked};
+ghost use Rattle.queries.specs.Written.{Lists};
+ghost use Rattle.conjunction.specs.Conjunction.{termsOf, Asked};
 
 // The pairs go into the front of the answers; how many. The walk ends as soon as one term has no further document.
 pub fn conjunction_in(archive: &[u8], l: Layout, q: Terms, answers: &mut [u32]) -> usize
     requires { ⌜ Opened (now archive) l ⌝ }
     requires { ⌜ Asked (l .terms) q × (2 * l .documents ≤ length (now answers)) ⌝ }
-    ensures { λ r. ⌜ (r ≡ length (model.conjunction (contents (now (archive .entry))) (take (q .size) (q .numbers)))) × (now (answers .exit) ≡ overwrite (model.flat (model.conjunction (contents (now (archive .entry))) (take (q .size) (q .numbers)))) (now (answers .entry))) ⌝ }
+    ensures { λ r. ⌜ Lists (model.conjunction (contents (now (archive .entry))) (termsOf q)) r (now (answers .entry)) (now (answers .exit)) ⌝ }
 {
     let mut path = [0u32; 468];
     put_root(archive, l, q, &mut path);
@@ -42,7 +43,7 @@ pub fn conjunction_in(archive: &[u8], l: Layout, q: Terms, answers: &mut [u32]) 
 // Whether one of the terms is no term of the archive.
 fn term_missing(l: Layout, q: Terms) -> bool
     requires { ⌜ q .size ≤ 8 ⌝ }
-    ensures { λ r. ⌜ r ≡ any (leb (l .terms)) (take (q .size) (q .numbers)) ⌝ }
+    ensures { λ r. ⌜ r ≡ any (leb (l .terms)) (termsOf q) ⌝ }
 {
     let size = q.size as usize;
     let mut i: usize = 0;

@@ -11,13 +11,13 @@ use wavelet::rank_node;
 ghost use mathlib.Core.Path.{_≡_};
 ghost use mathlib.Core.Bool.{_&&_, _||_};
 ghost use Prim.Native.Nat.{_+_, _-_, _*_, _^_, _≤_, _<_, min};
-ghost use lib.ListN.{length, getD};
+ghost use lib.ListN.{length};
 ghost use lib.Dec.{ltb};
 ghost use Rattle.wavelet.specs.Levels.{Stored, levelOf};
-ghost use Rattle.wavelet.specs.Spans.{Ordered, halvesOf, rankedOf, spanIn};
+ghost use Rattle.wavelet.specs.Spans.{Ordered, rankedOf};
 ghost use Rattle.archive.specs.Layout.{Opened};
 ghost use Rattle.conjunction.specs.Conjunction.{Asked};
-ghost use Rattle.conjunction.specs.Paths.{frameOf, putHalves, sidesOf, termSpan, Whole, Held};
+ghost use Rattle.conjunction.specs.Paths.{frameOf, pairIn, halvesIn, putHalves, sidesOf, termSpan, Whole, Held};
 
 // How many entries a term has in each half of a node.
 struct Sides {
@@ -62,8 +62,10 @@ fn part_term(
     path: &mut [u32],
 ) -> Sides
     requires { ⌜ Stored (now bytes) t ⌝ }
-    requires { ⌜ (level < t .height) × (node ≡ rankedOf (levelOf (now bytes) t level) (node .start) (node .end)) × (from < 234) × (to + 9 < 234) × (length (now path) ≡ 468) × Ordered (t .entries) (spanIn node (getD (now path) (2 * from) 0) (getD (now path) (2 * from + 1) 0)) ⌝ }
-    ensures { λ r. ⌜ (now (path .exit) ≡ putHalves (halvesOf (levelOf (now (bytes .entry)) t level) (spanIn node (getD (now (path .entry)) (2 * from) 0) (getD (now (path .entry)) (2 * from + 1) 0))) to (now (path .entry))) × (r ≡ sidesOf (halvesOf (levelOf (now (bytes .entry)) t level) (spanIn node (getD (now (path .entry)) (2 * from) 0) (getD (now (path .entry)) (2 * from + 1) 0)))) ⌝ }
+    requires { ⌜ (level < t .height) × (node ≡ rankedOf (levelOf (now bytes) t level) (node .start) (node .end)) × (from < 234) × (to + 9 < 234)
+        × (length (now path) ≡ 468) × Ordered (t .entries) (pairIn node (now path) from) ⌝ }
+    ensures { λ r. ⌜ (now (path .exit) ≡ putHalves (halvesIn (levelOf (now (bytes .entry)) t level) node (now (path .entry)) from) to (now (path .entry)))
+        × (r ≡ sidesOf (halvesIn (levelOf (now (bytes .entry)) t level) node (now (path .entry)) from)) ⌝ }
 {
     let lo = path[2 * from] as usize;
     let hi = path[2 * from + 1] as usize;
@@ -95,7 +97,8 @@ fn goes_on(k: usize, size: usize, low: usize, high: usize) -> bool
 pub fn open_node(archive: &[u8], l: Layout, q: Terms, level: usize, number: usize, path: &mut [u32])
     requires { ⌜ Opened (now archive) l ⌝ }
     requires { ⌜ Asked (l .terms) q × (length (now path) ≡ 468) × (level < l .levels .height) × (level < 12) × (number < 2 ^ level) ⌝ }
-    requires { ⌜ Held (termSpan (now archive) l q) (q .size) (now path) level number × Whole (termSpan (now archive) l q) (q .size) (now path) level number ⌝ }
+    requires { ⌜ Held (termSpan (now archive) l q) (q .size) (now path) level number
+        × Whole (termSpan (now archive) l q) (q .size) (now path) level number ⌝ }
     ensures { λ _. ⌜ Held (termSpan (now (archive .entry)) l q) (q .size) (now (path .exit)) (level + 1) (2 * number) ⌝ }
 {
     let frame = frame_of(level, number);

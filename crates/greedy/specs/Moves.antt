@@ -50,6 +50,10 @@ abbrev pub nextMove : List ℕ → Search → ℕ → List Waiting → model.Mov
 nextMove bytes s left [] = record { move = findsSpent; waiting = [] }
 nextMove bytes s left (w ∷ rest) = moveOf (countOf bytes s) (livesIn bytes s) left (w .block) (w .count) rest
 
+-- what waits once the first of the m waiting nodes is opened
+abbrev pub onceOpened : List ℕ → Search → List ℕ → ℕ → List Waiting
+onceOpened bytes s work m = nextMove bytes s 1 (frontierIn s work m) .waiting
+
 -- each case of a move as document 01 has it
 abbrev pub moveIs : Move → model.Move
 moveIs (Names d c) = names (record { document = d; count = c })

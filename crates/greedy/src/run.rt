@@ -142,7 +142,8 @@ pub fn greedy(
 ) -> Ended
     requires { ⌜ Searchable (now bytes) s ⌝ }
     requires { ⌜ (2 * min k (s .documents) ≤ length (now answers)) × (4 * s .documents ≤ length (now work)) ⌝ }
-    ensures { λ r. ⌜ resultIs r (now (answers .exit)) (now (work .exit)) ≡ foundInto (now (answers .entry)) (now (work .entry)) (answered (foundIn (now (bytes .entry)) s k allowance)) ⌝ }
+    ensures { λ r. ⌜ resultIs r (now (answers .exit)) (now (work .exit))
+        ≡ foundInto (now (answers .entry)) (now (work .entry)) (answered (foundIn (now (bytes .entry)) s k allowance)) ⌝ }
 {
     let mut p = Progress {
         waiting: begin(s, work),

@@ -6,7 +6,7 @@ use frontier::Record;
 use search::Search;
 ghost use mathlib.Core.Path.{_≡_};
 ghost use Prim.Native.Nat.{_%_, _<_};
-ghost use Rattle.greedy.specs.Moves.{Searchable, Kept, Moves, First, frontierIn, nextMove, movedIs};
+ghost use Rattle.greedy.specs.Moves.{Searchable, Kept, Moves, First, frontierIn, nextMove, onceOpened, movedIs};
 
 // Opens the first of the waiting nodes, r, which is no leaf: its halves wait, unless none of the range's entries are in them.
 fn open(bytes: &[u8], s: Search, work: &mut [u32], waiting: usize, r: Record) -> usize
@@ -14,7 +14,7 @@ fn open(bytes: &[u8], s: Search, work: &mut [u32], waiting: usize, r: Record) ->
     requires { ⌜ Kept (now bytes) s (now work) waiting ⌝ }
     requires { ⌜ First (now work) waiting r ⌝ }
     requires { ⌜ r .second % 16 < s .levels .height ⌝ }
-    ensures { λ n. ⌜ Moves (now (bytes .entry)) s (now (work .entry)) (nextMove (now (bytes .entry)) s 1 (frontierIn s (now (work .entry)) waiting) .waiting) (now (work .exit)) n ⌝ }
+    ensures { λ n. ⌜ Moves (now (bytes .entry)) s (now (work .entry)) (onceOpened (now (bytes .entry)) s (now (work .entry)) waiting) (now (work .exit)) n ⌝ }
 {
     let two = halves(bytes, s.levels, r);
     let low = two.low;

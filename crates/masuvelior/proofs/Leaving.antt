@@ -7,14 +7,14 @@ use Rattle.model.specs.Format.{Sizes, WriteResult}
 use Rattle.model.specs.Opening.{ReadResult}
 use Rattle.model.specs.Queries.{PairsResult}
 use Rattle.model.specs.TopK.{SearchResult}
-use Rattle.masuvelior.specs.Left.{Given, Left, given, single, sizes, writeLeft, readLeft, pairsLeft, searchLeft}
+use Rattle.masuvelior.specs.Left.{Given, Left, given, one, sizes, writeLeft, readLeft, pairsLeft, searchLeft}
 
 pub given-for : {A : Type 0} (values : A → List ℕ) (outs : List ℕ) {o p : Outcome A} {g : Given}
     → g ≡ given values o outs → o ≡ p → g ≡ given values p outs
 given-for values outs e q = e ∙ ap (λ x. given values x outs) q
 
 pub write-left : (outs : List ℕ) {o : Outcome ℕ} {target : List ℕ} {g : Given} {r : WriteResult}
-    → g ≡ given single o outs → record { outcome = o; target = target } ≡ r
+    → g ≡ given one o outs → record { outcome = o; target = target } ≡ r
     → _≡_ {A = Left} (record { answer = g; slices = target ∷ [] }) (writeLeft r outs)
 unfolding writeLeft
 write-left outs {target = target} e q =
@@ -28,7 +28,7 @@ read-left outs {entries = entries} {lengths = lengths} e q =
     (λ i. record { answer = e i; slices = entries ∷ lengths ∷ [] }) ∙ ap (λ (x : ReadResult). readLeft x outs) q
 
 pub pairs-left : (outs : List ℕ) {o : Outcome ℕ} {answers : List ℕ} {g : Given} {r : PairsResult}
-    → g ≡ given single o outs → record { outcome = o; answers = answers } ≡ r
+    → g ≡ given one o outs → record { outcome = o; answers = answers } ≡ r
     → _≡_ {A = Left} (record { answer = g; slices = answers ∷ [] }) (pairsLeft r outs)
 unfolding pairsLeft
 pairs-left outs {answers = answers} e q =

@@ -14,32 +14,43 @@ pub record Given : Type 0 where
   pub code : ℕ
   pub outs : List ℕ
 
+abbrev pub coded : ℕ → List ℕ → Given
+coded code outs = record { code = code; outs = outs }
+
+-- so many out-parameters, or so many lent slices
+module _ {A : Type 0} where
+  abbrev pub one : A → List A
+  one x = x ∷ []
+
+  abbrev pub two : A → A → List A
+  two x y = x ∷ y ∷ []
+
+  abbrev pub three : A → A → A → List A
+  three x y z = x ∷ y ∷ z ∷ []
+
 -- 0 with the values, or the number of a refusal with the out-parameters as they were
 unfoldable pub given : {A : Type 0} → (A → List ℕ) → Outcome A → List ℕ → Given
-given values (answered x) outs = record { code = 0; outs = values x }
-given values (refused number) outs = record { code = number; outs = outs }
+given values (answered x) outs = coded 0 (values x)
+given values (refused number) outs = coded number outs
 
 -- ---- the values of an answer, as they go into out-parameters
 
-abbrev pub single : ℕ → List ℕ
-single x = x ∷ []
-
 -- n, N and W
 abbrev pub sizes : Sizes → List ℕ
-sizes s = s .entries ∷ s .documents ∷ s .terms ∷ []
+sizes s = three (s .entries) (s .documents) (s .terms)
 
 abbrev pub ends : Bounds → List ℕ
-ends r = r .from ∷ r .to ∷ []
+ends r = two (r .from) (r .to)
 
 -- 'none' is the largest number of 32 bits: no entry has that place
 abbrev pub placed : Place → List ℕ
-placed (place p) = p ∷ []
-placed none = 4294967295 ∷ []
+placed (place p) = one p
+placed none = one 4294967295
 
 -- how many pairs are listed; 0 for 'done' or 1 for 'spent'; the openings needed or the allowance
 abbrev pub ended : Ended → List ℕ
-ended (doneWith listed openings) = listed ∷ 0 ∷ openings ∷ []
-ended (spentWith listed allowance) = listed ∷ 1 ∷ allowance ∷ []
+ended (doneWith listed openings) = three listed 0 openings
+ended (spentWith listed allowance) = three listed 1 allowance
 
 -- ---- with the final content of the lent slices
 
@@ -47,17 +58,20 @@ pub record Left : Type 0 where
   pub answer : Given
   pub slices : List (List ℕ)
 
+abbrev pub left : ℕ → List ℕ → List (List ℕ) → Left
+left code outs slices = record { answer = coded code outs; slices = slices }
+
 unfoldable pub writeLeft : WriteResult → List ℕ → Left
-writeLeft r outs = record { answer = given single (r .outcome) outs; slices = r .target ∷ [] }
+writeLeft r outs = record { answer = given one (r .outcome) outs; slices = one (r .target) }
 
 unfoldable pub readLeft : ReadResult → List ℕ → Left
-readLeft r outs = record { answer = given sizes (r .outcome) outs; slices = r .entries ∷ r .lengths ∷ [] }
+readLeft r outs = record { answer = given sizes (r .outcome) outs; slices = two (r .entries) (r .lengths) }
 
 unfoldable pub pairsLeft : PairsResult → List ℕ → Left
-pairsLeft r outs = record { answer = given single (r .outcome) outs; slices = r .answers ∷ [] }
+pairsLeft r outs = record { answer = given one (r .outcome) outs; slices = one (r .answers) }
 
 unfoldable pub searchLeft : {A : Type 0} → (A → List ℕ) → SearchResult A → List ℕ → Left
-searchLeft values r outs = record { answer = given values (r .outcome) outs; slices = r .answers ∷ r .work ∷ [] }
+searchLeft values r outs = record { answer = given values (r .outcome) outs; slices = two (r .answers) (r .work) }
 
 -- ---- what the out-parameters can hold
 

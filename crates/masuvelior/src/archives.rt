@@ -2,11 +2,10 @@
 use crate::give;
 use archive::Opening;
 ghost use mathlib.Core.Path.{_≡_};
-ghost use mathlib.Core.List.{[], _∷_};
-ghost use Rattle.model.specs.Format.{writeResult};
+ghost use Rattle.model.specs.Format.{library, writeResult};
 ghost use Rattle.model.specs.Opening.{opening, readResult};
 ghost use Rattle.archive.specs.Layout.{IsArchive};
-ghost use Rattle.masuvelior.specs.Left.{given, single, sizes, writeLeft, readLeft};
+ghost use Rattle.masuvelior.specs.Left.{given, sizes, writeLeft, readLeft, coded, one, two, three, left};
 ghost use Rattle.masuvelior.specs.Length.{lengthResult};
 
 // The check on opening.
@@ -17,7 +16,8 @@ pub extern "C" fn masuvelior_open(
     documents: &mut u32,
     terms: &mut u32,
 ) -> u32
-    ensures { λ r. ⌜ record { code = r; outs = now (n .exit) ∷ now (documents .exit) ∷ now (terms .exit) ∷ [] } ≡ given sizes (opening (now (archive .entry))) (now (n .entry) ∷ now (documents .entry) ∷ now (terms .entry) ∷ []) ⌝ }
+    ensures { λ r. ⌜ coded r (three (now (n .exit)) (now (documents .exit)) (now (terms .exit)))
+        ≡ given sizes (opening (now (archive .entry))) (three (now (n .entry)) (now (documents .entry)) (now (terms .entry))) ⌝ }
 {
     match archive::open(archive) {
         Opening::Accepted(l) => give::sizes(
@@ -40,7 +40,8 @@ pub extern "C" fn masuvelior_archive_length(
     terms: u32,
     length: &mut usize,
 ) -> u32
-    ensures { λ r. ⌜ record { code = r; outs = now (length .exit) ∷ [] } ≡ given single (lengthResult (record { entries = n; documents = documents; terms = terms })) (now (length .entry) ∷ []) ⌝ }
+    ensures { λ r. ⌜ coded r (one (now (length .exit)))
+        ≡ given one (lengthResult (record { entries = n; documents = documents; terms = terms })) (one (now (length .entry))) ⌝ }
 {
     let entries = n as usize;
     let d = documents as usize;
@@ -61,7 +62,9 @@ pub extern "C" fn masuvelior_write(
     target: &mut [u8],
     length: &mut usize,
 ) -> u32
-    ensures { λ r. ⌜ record { answer = record { code = r; outs = now (length .exit) ∷ [] }; slices = now (target .exit) ∷ [] } ≡ writeLeft (writeResult (record { documents = documents; lengths = now (lengths .entry); entries = now (entries .entry) }) (now (target .entry))) (now (length .entry) ∷ []) ⌝ }
+    ensures { λ r. ⌜ left r (one (now (length .exit))) (one (now (target .exit)))
+        ≡ writeLeft (writeResult (library documents (now (lengths .entry)) (now (entries .entry))) (now (target .entry)))
+        (one (now (length .entry))) ⌝ }
 {
     let answer = codec::write(entries, lengths, documents, target);
     give::written(answer, length)
@@ -77,7 +80,9 @@ pub extern "C" fn masuvelior_read(
     documents: &mut u32,
     terms: &mut u32,
 ) -> u32
-    ensures { λ r. ⌜ record { answer = record { code = r; outs = now (n .exit) ∷ now (documents .exit) ∷ now (terms .exit) ∷ [] }; slices = now (entries .exit) ∷ now (lengths .exit) ∷ [] } ≡ readLeft (readResult (now (archive .entry)) (now (entries .entry)) (now (lengths .entry))) (now (n .entry) ∷ now (documents .entry) ∷ now (terms .entry) ∷ []) ⌝ }
+    ensures { λ r. ⌜ left r (three (now (n .exit)) (now (documents .exit)) (now (terms .exit))) (two (now (entries .exit)) (now (lengths .exit)))
+        ≡ readLeft (readResult (now (archive .entry)) (now (entries .entry)) (now (lengths .entry)))
+        (three (now (n .entry)) (now (documents .entry)) (now (terms .entry))) ⌝ }
 {
     let answer = codec::read(archive, entries, lengths);
     give::reading(answer, n, documents, terms)
@@ -93,7 +98,9 @@ pub extern "C" fn masuvelior_opened_read(
     terms: &mut u32,
 ) -> u32
     requires { ⌜ IsArchive (now archive) ⌝ }
-    ensures { λ r. ⌜ record { answer = record { code = r; outs = now (n .exit) ∷ now (documents .exit) ∷ now (terms .exit) ∷ [] }; slices = now (entries .exit) ∷ now (lengths .exit) ∷ [] } ≡ readLeft (readResult (now (archive .entry)) (now (entries .entry)) (now (lengths .entry))) (now (n .entry) ∷ now (documents .entry) ∷ now (terms .entry) ∷ []) ⌝ }
+    ensures { λ r. ⌜ left r (three (now (n .exit)) (now (documents .exit)) (now (terms .exit))) (two (now (entries .exit)) (now (lengths .exit)))
+        ≡ readLeft (readResult (now (archive .entry)) (now (entries .entry)) (now (lengths .entry)))
+        (three (now (n .entry)) (now (documents .entry)) (now (terms .entry))) ⌝ }
 {
     let l = archive::layout_in(archive);
     let answer = codec::read_opened(archive, l, entries, lengths);

@@ -2,11 +2,10 @@
 use crate::give;
 use conjunction::Terms;
 ghost use mathlib.Core.Path.{_≡_};
-ghost use mathlib.Core.List.{[], _∷_};
 ghost use lib.ListN.{length};
 ghost use Rattle.model.specs.Queries.{conjunctionResult};
 ghost use Rattle.archive.specs.Layout.{IsArchive};
-ghost use Rattle.masuvelior.specs.Left.{pairsLeft};
+ghost use Rattle.masuvelior.specs.Left.{pairsLeft, one, left};
 ghost use Rattle.masuvelior.specs.Chosen.{Chosen};
 
 // The chosen terms as the question holds them. Nine stand for more than eight, which are refused.
@@ -37,7 +36,9 @@ pub extern "C" fn masuvelior_conjunction(
     answers: &mut [u32],
     listed: &mut u32,
 ) -> u32
-    ensures { λ r. ⌜ record { answer = record { code = r; outs = now (listed .exit) ∷ [] }; slices = now (answers .exit) ∷ [] } ≡ pairsLeft (conjunctionResult (now (archive .entry)) (now (chosen .entry)) (length (now (chosen .entry))) (now (answers .entry))) (now (listed .entry) ∷ []) ⌝ }
+    ensures { λ r. ⌜ left r (one (now (listed .exit))) (one (now (answers .exit)))
+        ≡ pairsLeft (conjunctionResult (now (archive .entry)) (now (chosen .entry)) (length (now (chosen .entry))) (now (answers .entry)))
+        (one (now (listed .entry))) ⌝ }
 {
     give::number(
         conjunction::conjunction(archive, terms_of(chosen), answers),
@@ -53,7 +54,9 @@ pub extern "C" fn masuvelior_opened_conjunction(
     listed: &mut u32,
 ) -> u32
     requires { ⌜ IsArchive (now archive) ⌝ }
-    ensures { λ r. ⌜ record { answer = record { code = r; outs = now (listed .exit) ∷ [] }; slices = now (answers .exit) ∷ [] } ≡ pairsLeft (conjunctionResult (now (archive .entry)) (now (chosen .entry)) (length (now (chosen .entry))) (now (answers .entry))) (now (listed .entry) ∷ []) ⌝ }
+    ensures { λ r. ⌜ left r (one (now (listed .exit))) (one (now (answers .exit)))
+        ≡ pairsLeft (conjunctionResult (now (archive .entry)) (now (chosen .entry)) (length (now (chosen .entry))) (now (answers .entry)))
+        (one (now (listed .entry))) ⌝ }
 {
     let l = archive::layout_in(archive);
     give::number(

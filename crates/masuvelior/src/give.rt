@@ -7,7 +7,6 @@ use queries::Placed;
 use top_k::Probed;
 use top_k::TopK;
 ghost use mathlib.Core.Path.{_≡_};
-ghost use mathlib.Core.List.{[], _∷_};
 ghost use Prim.Native.Nat.{_^_, _<_};
 ghost use Rattle.archive.specs.Ranges.{boundsIn};
 ghost use Rattle.codec.specs.Reading.{readingOf};
@@ -15,13 +14,13 @@ ghost use Rattle.codec.specs.Writing.{writtenOf};
 ghost use Rattle.queries.specs.Answers.{numberOf, placeOf};
 ghost use Rattle.top_k.specs.Asked.{topKOf, probedOf};
 ghost use Rattle.masuvelior.specs.Left as border;
-ghost use Rattle.masuvelior.specs.Left.{Given, given, single, placed, ended, Narrow};
+ghost use Rattle.masuvelior.specs.Left.{given, placed, ended, Narrow, coded, one, two, three};
 
 // The place that stands for 'none'.
 const NONE: u32 = 4294967295;
 
 pub fn number(answer: Answer, out: &mut u32) -> u32
-    ensures { λ r. ⌜ record { code = r; outs = now (out .exit) ∷ [] } ≡ given single (numberOf answer) (now (out .entry) ∷ []) ⌝ }
+    ensures { λ r. ⌜ coded r (one (now (out .exit))) ≡ given one (numberOf answer) (one (now (out .entry))) ⌝ }
 {
     match answer {
         Answer::Number(x) => {
@@ -33,7 +32,7 @@ pub fn number(answer: Answer, out: &mut u32) -> u32
 }
 
 pub fn place(answer: Placed, out: &mut u32) -> u32
-    ensures { λ r. ⌜ record { code = r; outs = now (out .exit) ∷ [] } ≡ given placed (placeOf answer) (now (out .entry) ∷ []) ⌝ }
+    ensures { λ r. ⌜ coded r (one (now (out .exit))) ≡ given placed (placeOf answer) (one (now (out .entry))) ⌝ }
 {
     match answer {
         Placed::At(p) => {
@@ -49,7 +48,8 @@ pub fn place(answer: Placed, out: &mut u32) -> u32
 }
 
 pub fn ends(range: Range, first: &mut u32, second: &mut u32) -> u32
-    ensures { λ r. ⌜ record { code = r; outs = now (first .exit) ∷ now (second .exit) ∷ [] } ≡ given border.ends (boundsIn range) (now (first .entry) ∷ now (second .entry) ∷ []) ⌝ }
+    ensures { λ r. ⌜ coded r (two (now (first .exit)) (now (second .exit)))
+        ≡ given border.ends (boundsIn range) (two (now (first .entry)) (now (second .entry))) ⌝ }
 {
     match range {
         Range::Entries { from, to } => {
@@ -62,7 +62,7 @@ pub fn ends(range: Range, first: &mut u32, second: &mut u32) -> u32
 }
 
 pub fn written(answer: Written, out: &mut usize) -> u32
-    ensures { λ r. ⌜ record { code = r; outs = now (out .exit) ∷ [] } ≡ given single (writtenOf answer) (now (out .entry) ∷ []) ⌝ }
+    ensures { λ r. ⌜ coded r (one (now (out .exit))) ≡ given one (writtenOf answer) (one (now (out .entry))) ⌝ }
 {
     match answer {
         Written::Length(size) => {
@@ -83,7 +83,7 @@ pub fn sizes(
     third: &mut u32,
 ) -> u32
     requires { ⌜ (entries < 2 ^ 32) × (documents < 2 ^ 32) × (terms < 2 ^ 32) ⌝ }
-    ensures { λ r. ⌜ _≡_ {A = Given} (record { code = r; outs = now (first .exit) ∷ now (second .exit) ∷ now (third .exit) ∷ [] }) (record { code = 0; outs = entries ∷ documents ∷ terms ∷ [] }) ⌝ }
+    ensures { λ r. ⌜ coded r (three (now (first .exit)) (now (second .exit)) (now (third .exit))) ≡ coded 0 (three entries documents terms) ⌝ }
 {
     *first = entries as u32;
     *second = documents as u32;
@@ -93,7 +93,8 @@ pub fn sizes(
 
 pub fn reading(answer: Reading, first: &mut u32, second: &mut u32, third: &mut u32) -> u32
     requires { ⌜ Narrow answer ⌝ }
-    ensures { λ r. ⌜ record { code = r; outs = now (first .exit) ∷ now (second .exit) ∷ now (third .exit) ∷ [] } ≡ given border.sizes (readingOf answer) (now (first .entry) ∷ now (second .entry) ∷ now (third .entry) ∷ []) ⌝ }
+    ensures { λ r. ⌜ coded r (three (now (first .exit)) (now (second .exit)) (now (third .exit)))
+        ≡ given border.sizes (readingOf answer) (three (now (first .entry)) (now (second .entry)) (now (third .entry))) ⌝ }
 {
     match answer {
         Reading::Read {
@@ -106,7 +107,8 @@ pub fn reading(answer: Reading, first: &mut u32, second: &mut u32, third: &mut u
 }
 
 pub fn top_k(answer: TopK, first: &mut u32, second: &mut u32, third: &mut u32) -> u32
-    ensures { λ r. ⌜ record { code = r; outs = now (first .exit) ∷ now (second .exit) ∷ now (third .exit) ∷ [] } ≡ given ended (topKOf answer) (now (first .entry) ∷ now (second .entry) ∷ now (third .entry) ∷ []) ⌝ }
+    ensures { λ r. ⌜ coded r (three (now (first .exit)) (now (second .exit)) (now (third .exit)))
+        ≡ given ended (topKOf answer) (three (now (first .entry)) (now (second .entry)) (now (third .entry))) ⌝ }
 {
     match answer {
         TopK::Done { listed, openings } => {
@@ -126,7 +128,7 @@ pub fn top_k(answer: TopK, first: &mut u32, second: &mut u32, third: &mut u32) -
 }
 
 pub fn probed(answer: Probed, out: &mut u32) -> u32
-    ensures { λ r. ⌜ record { code = r; outs = now (out .exit) ∷ [] } ≡ given single (probedOf answer) (now (out .entry) ∷ []) ⌝ }
+    ensures { λ r. ⌜ coded r (one (now (out .exit))) ≡ given one (probedOf answer) (one (now (out .entry))) ⌝ }
 {
     match answer {
         Probed::Pairs(listed) => {

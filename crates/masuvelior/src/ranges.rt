@@ -1,10 +1,9 @@
 // Questions of a range, in either form, checked and of an archive opened before; and the rate.
 use crate::give;
 ghost use mathlib.Core.Path.{_≡_};
-ghost use mathlib.Core.List.{[], _∷_};
 ghost use Rattle.model.specs.Queries.{ofEntries, ofTerms, rangeResult, quantileResult, listResult, perMilleResult};
 ghost use Rattle.archive.specs.Layout.{IsArchive};
-ghost use Rattle.masuvelior.specs.Left.{given, single, ends, pairsLeft};
+ghost use Rattle.masuvelior.specs.Left.{given, ends, pairsLeft, coded, one, two, left};
 
 // The document of a rank in a range of entries.
 #[no_mangle]
@@ -15,7 +14,8 @@ pub extern "C" fn masuvelior_quantile(
     rank: u32,
     document: &mut u32,
 ) -> u32
-    ensures { λ r. ⌜ record { code = r; outs = now (document .exit) ∷ [] } ≡ given single (quantileResult (now (archive .entry)) (ofEntries a b) rank) (now (document .entry) ∷ []) ⌝ }
+    ensures { λ r. ⌜ coded r (one (now (document .exit)))
+        ≡ given one (quantileResult (now (archive .entry)) (ofEntries a b) rank) (one (now (document .entry))) ⌝ }
 {
     give::number(queries::quantile(archive, a, b, rank), document)
 }
@@ -29,7 +29,8 @@ pub extern "C" fn masuvelior_opened_quantile(
     document: &mut u32,
 ) -> u32
     requires { ⌜ IsArchive (now archive) ⌝ }
-    ensures { λ r. ⌜ record { code = r; outs = now (document .exit) ∷ [] } ≡ given single (quantileResult (now (archive .entry)) (ofEntries a b) rank) (now (document .entry) ∷ []) ⌝ }
+    ensures { λ r. ⌜ coded r (one (now (document .exit)))
+        ≡ given one (quantileResult (now (archive .entry)) (ofEntries a b) rank) (one (now (document .entry))) ⌝ }
 {
     let l = archive::layout_in(archive);
     give::number(queries::quantile_opened(archive, l, a, b, rank), document)
@@ -44,7 +45,8 @@ pub extern "C" fn masuvelior_quantile_terms(
     rank: u32,
     document: &mut u32,
 ) -> u32
-    ensures { λ r. ⌜ record { code = r; outs = now (document .exit) ∷ [] } ≡ given single (quantileResult (now (archive .entry)) (ofTerms first last) rank) (now (document .entry) ∷ []) ⌝ }
+    ensures { λ r. ⌜ coded r (one (now (document .exit)))
+        ≡ given one (quantileResult (now (archive .entry)) (ofTerms first last) rank) (one (now (document .entry))) ⌝ }
 {
     give::number(
         queries::quantile_terms(archive, first, last, rank),
@@ -61,7 +63,8 @@ pub extern "C" fn masuvelior_opened_quantile_terms(
     document: &mut u32,
 ) -> u32
     requires { ⌜ IsArchive (now archive) ⌝ }
-    ensures { λ r. ⌜ record { code = r; outs = now (document .exit) ∷ [] } ≡ given single (quantileResult (now (archive .entry)) (ofTerms first last) rank) (now (document .entry) ∷ []) ⌝ }
+    ensures { λ r. ⌜ coded r (one (now (document .exit)))
+        ≡ given one (quantileResult (now (archive .entry)) (ofTerms first last) rank) (one (now (document .entry))) ⌝ }
 {
     let l = archive::layout_in(archive);
     give::number(
@@ -79,7 +82,8 @@ pub extern "C" fn masuvelior_list(
     answers: &mut [u32],
     listed: &mut u32,
 ) -> u32
-    ensures { λ r. ⌜ record { answer = record { code = r; outs = now (listed .exit) ∷ [] }; slices = now (answers .exit) ∷ [] } ≡ pairsLeft (listResult (now (archive .entry)) (ofEntries a b) (now (answers .entry))) (now (listed .entry) ∷ []) ⌝ }
+    ensures { λ r. ⌜ left r (one (now (listed .exit))) (one (now (answers .exit)))
+        ≡ pairsLeft (listResult (now (archive .entry)) (ofEntries a b) (now (answers .entry))) (one (now (listed .entry))) ⌝ }
 {
     give::number(queries::list(archive, a, b, answers), listed)
 }
@@ -93,7 +97,8 @@ pub extern "C" fn masuvelior_opened_list(
     listed: &mut u32,
 ) -> u32
     requires { ⌜ IsArchive (now archive) ⌝ }
-    ensures { λ r. ⌜ record { answer = record { code = r; outs = now (listed .exit) ∷ [] }; slices = now (answers .exit) ∷ [] } ≡ pairsLeft (listResult (now (archive .entry)) (ofEntries a b) (now (answers .entry))) (now (listed .entry) ∷ []) ⌝ }
+    ensures { λ r. ⌜ left r (one (now (listed .exit))) (one (now (answers .exit)))
+        ≡ pairsLeft (listResult (now (archive .entry)) (ofEntries a b) (now (answers .entry))) (one (now (listed .entry))) ⌝ }
 {
     let l = archive::layout_in(archive);
     give::number(queries::list_opened(archive, l, a, b, answers), listed)
@@ -108,7 +113,8 @@ pub extern "C" fn masuvelior_list_terms(
     answers: &mut [u32],
     listed: &mut u32,
 ) -> u32
-    ensures { λ r. ⌜ record { answer = record { code = r; outs = now (listed .exit) ∷ [] }; slices = now (answers .exit) ∷ [] } ≡ pairsLeft (listResult (now (archive .entry)) (ofTerms first last) (now (answers .entry))) (now (listed .entry) ∷ []) ⌝ }
+    ensures { λ r. ⌜ left r (one (now (listed .exit))) (one (now (answers .exit)))
+        ≡ pairsLeft (listResult (now (archive .entry)) (ofTerms first last) (now (answers .entry))) (one (now (listed .entry))) ⌝ }
 {
     give::number(queries::list_terms(archive, first, last, answers), listed)
 }
@@ -122,7 +128,8 @@ pub extern "C" fn masuvelior_opened_list_terms(
     listed: &mut u32,
 ) -> u32
     requires { ⌜ IsArchive (now archive) ⌝ }
-    ensures { λ r. ⌜ record { answer = record { code = r; outs = now (listed .exit) ∷ [] }; slices = now (answers .exit) ∷ [] } ≡ pairsLeft (listResult (now (archive .entry)) (ofTerms first last) (now (answers .entry))) (now (listed .entry) ∷ []) ⌝ }
+    ensures { λ r. ⌜ left r (one (now (listed .exit))) (one (now (answers .exit)))
+        ≡ pairsLeft (listResult (now (archive .entry)) (ofTerms first last) (now (answers .entry))) (one (now (listed .entry))) ⌝ }
 {
     let l = archive::layout_in(archive);
     give::number(
@@ -140,7 +147,8 @@ pub extern "C" fn masuvelior_range_of_terms(
     from: &mut u32,
     to: &mut u32,
 ) -> u32
-    ensures { λ r. ⌜ record { code = r; outs = now (from .exit) ∷ now (to .exit) ∷ [] } ≡ given ends (rangeResult (now (archive .entry)) (ofTerms first last)) (now (from .entry) ∷ now (to .entry) ∷ []) ⌝ }
+    ensures { λ r. ⌜ coded r (two (now (from .exit)) (now (to .exit)))
+        ≡ given ends (rangeResult (now (archive .entry)) (ofTerms first last)) (two (now (from .entry)) (now (to .entry))) ⌝ }
 {
     give::ends(queries::range_of_terms(archive, first, last), from, to)
 }
@@ -154,7 +162,8 @@ pub extern "C" fn masuvelior_opened_range_of_terms(
     to: &mut u32,
 ) -> u32
     requires { ⌜ IsArchive (now archive) ⌝ }
-    ensures { λ r. ⌜ record { code = r; outs = now (from .exit) ∷ now (to .exit) ∷ [] } ≡ given ends (rangeResult (now (archive .entry)) (ofTerms first last)) (now (from .entry) ∷ now (to .entry) ∷ []) ⌝ }
+    ensures { λ r. ⌜ coded r (two (now (from .exit)) (now (to .exit)))
+        ≡ given ends (rangeResult (now (archive .entry)) (ofTerms first last)) (two (now (from .entry)) (now (to .entry))) ⌝ }
 {
     let l = archive::layout_in(archive);
     give::ends(archive::term_range(archive, l, first, last), from, to)
@@ -163,7 +172,7 @@ pub extern "C" fn masuvelior_opened_range_of_terms(
 // The rate.
 #[no_mangle]
 pub extern "C" fn masuvelior_per_mille(count: u32, size: u32, rate: &mut u32) -> u32
-    ensures { λ r. ⌜ record { code = r; outs = now (rate .exit) ∷ [] } ≡ given single (perMilleResult count size) (now (rate .entry) ∷ []) ⌝ }
+    ensures { λ r. ⌜ coded r (one (now (rate .exit))) ≡ given one (perMilleResult count size) (one (now (rate .entry))) ⌝ }
 {
     give::number(queries::per_mille(count, size), rate)
 }

@@ -1,11 +1,10 @@
 // Top-k, checked and of an archive opened before.
 use crate::give;
 ghost use mathlib.Core.Path.{_≡_};
-ghost use mathlib.Core.List.{[], _∷_};
 ghost use Rattle.model.specs.Queries.{ofEntries, ofTerms};
 ghost use Rattle.model.specs.TopK.{greedyResult, probingResult};
 ghost use Rattle.archive.specs.Layout.{IsArchive};
-ghost use Rattle.masuvelior.specs.Left.{single, ended, searchLeft};
+ghost use Rattle.masuvelior.specs.Left.{ended, searchLeft, one, two, three, left};
 
 // Greedy top-k of a range of entries.
 #[no_mangle]
@@ -21,7 +20,9 @@ pub extern "C" fn masuvelior_greedy_entries(
     spent: &mut u32,
     number: &mut u32,
 ) -> u32
-    ensures { λ r. ⌜ record { answer = record { code = r; outs = now (listed .exit) ∷ now (spent .exit) ∷ now (number .exit) ∷ [] }; slices = now (answers .exit) ∷ now (work .exit) ∷ [] } ≡ searchLeft ended (greedyResult (now (archive .entry)) (ofEntries a b) k allowance (now (answers .entry)) (now (work .entry))) (now (listed .entry) ∷ now (spent .entry) ∷ now (number .entry) ∷ []) ⌝ }
+    ensures { λ r. ⌜ left r (three (now (listed .exit)) (now (spent .exit)) (now (number .exit))) (two (now (answers .exit)) (now (work .exit)))
+        ≡ searchLeft ended (greedyResult (now (archive .entry)) (ofEntries a b) k allowance (now (answers .entry)) (now (work .entry)))
+        (three (now (listed .entry)) (now (spent .entry)) (now (number .entry))) ⌝ }
 {
     let answer = top_k::greedy_entries(archive, a, b, k, allowance, answers, work);
     give::top_k(answer, listed, spent, number)
@@ -41,7 +42,9 @@ pub extern "C" fn masuvelior_opened_greedy_entries(
     number: &mut u32,
 ) -> u32
     requires { ⌜ IsArchive (now archive) ⌝ }
-    ensures { λ r. ⌜ record { answer = record { code = r; outs = now (listed .exit) ∷ now (spent .exit) ∷ now (number .exit) ∷ [] }; slices = now (answers .exit) ∷ now (work .exit) ∷ [] } ≡ searchLeft ended (greedyResult (now (archive .entry)) (ofEntries a b) k allowance (now (answers .entry)) (now (work .entry))) (now (listed .entry) ∷ now (spent .entry) ∷ now (number .entry) ∷ []) ⌝ }
+    ensures { λ r. ⌜ left r (three (now (listed .exit)) (now (spent .exit)) (now (number .exit))) (two (now (answers .exit)) (now (work .exit)))
+        ≡ searchLeft ended (greedyResult (now (archive .entry)) (ofEntries a b) k allowance (now (answers .entry)) (now (work .entry)))
+        (three (now (listed .entry)) (now (spent .entry)) (now (number .entry))) ⌝ }
 {
     let l = archive::layout_in(archive);
     let answer = top_k::greedy_entries_opened(archive, l, a, b, k, allowance, answers, work);
@@ -62,7 +65,9 @@ pub extern "C" fn masuvelior_greedy_terms(
     spent: &mut u32,
     number: &mut u32,
 ) -> u32
-    ensures { λ r. ⌜ record { answer = record { code = r; outs = now (listed .exit) ∷ now (spent .exit) ∷ now (number .exit) ∷ [] }; slices = now (answers .exit) ∷ now (work .exit) ∷ [] } ≡ searchLeft ended (greedyResult (now (archive .entry)) (ofTerms first last) k allowance (now (answers .entry)) (now (work .entry))) (now (listed .entry) ∷ now (spent .entry) ∷ now (number .entry) ∷ []) ⌝ }
+    ensures { λ r. ⌜ left r (three (now (listed .exit)) (now (spent .exit)) (now (number .exit))) (two (now (answers .exit)) (now (work .exit)))
+        ≡ searchLeft ended (greedyResult (now (archive .entry)) (ofTerms first last) k allowance (now (answers .entry)) (now (work .entry)))
+        (three (now (listed .entry)) (now (spent .entry)) (now (number .entry))) ⌝ }
 {
     let answer = top_k::greedy_terms(archive, first, last, k, allowance, answers, work);
     give::top_k(answer, listed, spent, number)
@@ -82,7 +87,9 @@ pub extern "C" fn masuvelior_opened_greedy_terms(
     number: &mut u32,
 ) -> u32
     requires { ⌜ IsArchive (now archive) ⌝ }
-    ensures { λ r. ⌜ record { answer = record { code = r; outs = now (listed .exit) ∷ now (spent .exit) ∷ now (number .exit) ∷ [] }; slices = now (answers .exit) ∷ now (work .exit) ∷ [] } ≡ searchLeft ended (greedyResult (now (archive .entry)) (ofTerms first last) k allowance (now (answers .entry)) (now (work .entry))) (now (listed .entry) ∷ now (spent .entry) ∷ now (number .entry) ∷ []) ⌝ }
+    ensures { λ r. ⌜ left r (three (now (listed .exit)) (now (spent .exit)) (now (number .exit))) (two (now (answers .exit)) (now (work .exit)))
+        ≡ searchLeft ended (greedyResult (now (archive .entry)) (ofTerms first last) k allowance (now (answers .entry)) (now (work .entry)))
+        (three (now (listed .entry)) (now (spent .entry)) (now (number .entry))) ⌝ }
 {
     let l = archive::layout_in(archive);
     let answer = top_k::greedy_terms_opened(archive, l, first, last, k, allowance, answers, work);
@@ -100,7 +107,9 @@ pub extern "C" fn masuvelior_probing_entries(
     work: &mut [u32],
     listed: &mut u32,
 ) -> u32
-    ensures { λ r. ⌜ record { answer = record { code = r; outs = now (listed .exit) ∷ [] }; slices = now (answers .exit) ∷ now (work .exit) ∷ [] } ≡ searchLeft single (probingResult (now (archive .entry)) (ofEntries a b) k (now (answers .entry)) (now (work .entry))) (now (listed .entry) ∷ []) ⌝ }
+    ensures { λ r. ⌜ left r (one (now (listed .exit))) (two (now (answers .exit)) (now (work .exit)))
+        ≡ searchLeft one (probingResult (now (archive .entry)) (ofEntries a b) k (now (answers .entry)) (now (work .entry)))
+        (one (now (listed .entry))) ⌝ }
 {
     let answer = top_k::probing_entries(archive, a, b, k, answers, work);
     give::probed(answer, listed)
@@ -117,7 +126,9 @@ pub extern "C" fn masuvelior_opened_probing_entries(
     listed: &mut u32,
 ) -> u32
     requires { ⌜ IsArchive (now archive) ⌝ }
-    ensures { λ r. ⌜ record { answer = record { code = r; outs = now (listed .exit) ∷ [] }; slices = now (answers .exit) ∷ now (work .exit) ∷ [] } ≡ searchLeft single (probingResult (now (archive .entry)) (ofEntries a b) k (now (answers .entry)) (now (work .entry))) (now (listed .entry) ∷ []) ⌝ }
+    ensures { λ r. ⌜ left r (one (now (listed .exit))) (two (now (answers .exit)) (now (work .exit)))
+        ≡ searchLeft one (probingResult (now (archive .entry)) (ofEntries a b) k (now (answers .entry)) (now (work .entry)))
+        (one (now (listed .entry))) ⌝ }
 {
     let l = archive::layout_in(archive);
     let answer = top_k::probing_entries_opened(archive, l, a, b, k, answers, work);
@@ -135,7 +146,9 @@ pub extern "C" fn masuvelior_probing_terms(
     work: &mut [u32],
     listed: &mut u32,
 ) -> u32
-    ensures { λ r. ⌜ record { answer = record { code = r; outs = now (listed .exit) ∷ [] }; slices = now (answers .exit) ∷ now (work .exit) ∷ [] } ≡ searchLeft single (probingResult (now (archive .entry)) (ofTerms first last) k (now (answers .entry)) (now (work .entry))) (now (listed .entry) ∷ []) ⌝ }
+    ensures { λ r. ⌜ left r (one (now (listed .exit))) (two (now (answers .exit)) (now (work .exit)))
+        ≡ searchLeft one (probingResult (now (archive .entry)) (ofTerms first last) k (now (answers .entry)) (now (work .entry)))
+        (one (now (listed .entry))) ⌝ }
 {
     let answer = top_k::probing_terms(archive, first, last, k, answers, work);
     give::probed(answer, listed)
@@ -152,7 +165,9 @@ pub extern "C" fn masuvelior_opened_probing_terms(
     listed: &mut u32,
 ) -> u32
     requires { ⌜ IsArchive (now archive) ⌝ }
-    ensures { λ r. ⌜ record { answer = record { code = r; outs = now (listed .exit) ∷ [] }; slices = now (answers .exit) ∷ now (work .exit) ∷ [] } ≡ searchLeft single (probingResult (now (archive .entry)) (ofTerms first last) k (now (answers .entry)) (now (work .entry))) (now (listed .entry) ∷ []) ⌝ }
+    ensures { λ r. ⌜ left r (one (now (listed .exit))) (two (now (answers .exit)) (now (work .exit)))
+        ≡ searchLeft one (probingResult (now (archive .entry)) (ofTerms first last) k (now (answers .entry)) (now (work .entry)))
+        (one (now (listed .entry))) ⌝ }
 {
     let l = archive::layout_in(archive);
     let answer = top_k::probing_terms_opened(archive, l, first, last, k, answers, work);

@@ -16,6 +16,9 @@ pub record Library : Type 0 where
   pub lengths : List ℕ
   pub entries : List ℕ
 
+abbrev pub library : ℕ → List ℕ → List ℕ → Library
+library documents lengths entries = record { documents = documents; lengths = lengths; entries = entries }
+
 -- n, N and W
 pub record Sizes : Type 0 where
   pub entries : ℕ

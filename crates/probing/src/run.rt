@@ -31,7 +31,8 @@ fn probe_at(
     requires { ⌜ Searchable (now bytes) s × (r < s .b - s .a) ⌝ }
     requires { ⌜ Lent (s .documents) k (rangeOf (now bytes) s) (now work) (now answers) ⌝ }
     requires { ⌜ Held (s .documents) k (rangeOf (now bytes) s) (marked (s .documents) (now work)) (pairsIn (now answers) held) ⌝ }
-    ensures { λ n. ⌜ stateIn (s .documents) (now (work .exit)) (now (answers .exit)) n ≡ probe k (rangeOf (now (bytes .entry)) s) r (stateIn (s .documents) (now (work .entry)) (now (answers .entry)) held) ⌝ }
+    ensures { λ n. ⌜ stateIn (s .documents) (now (work .exit)) (now (answers .exit)) n
+        ≡ probe k (rangeOf (now (bytes .entry)) s) r (stateIn (s .documents) (now (work .entry)) (now (answers .entry)) held) ⌝ }
     ensures { λ n. ⌜ Kept (s .documents) held n (now (work .entry)) (now (answers .entry)) (now (work .exit)) (now (answers .exit)) ⌝ }
 {
     let found = quantile(bytes, s.levels, s.a, s.b, r);
@@ -94,7 +95,8 @@ fn full_list(bytes: &[u8], s: Search, k: usize, answers: &mut [u32], work: &mut 
 pub fn probing(bytes: &[u8], s: Search, k: u32, answers: &mut [u32], work: &mut [u32]) -> usize
     requires { ⌜ Searchable (now bytes) s ⌝ }
     requires { ⌜ (2 * min k (s .documents) ≤ length (now answers)) × (4 * s .documents ≤ length (now work)) ⌝ }
-    ensures { λ n. ⌜ listedIs n (now (answers .exit)) (now (work .exit)) ≡ foundInto (now (answers .entry)) (now (work .entry)) (answered (fullIn (now (bytes .entry)) s k)) ⌝ }
+    ensures { λ n. ⌜ listedIs n (now (answers .exit)) (now (work .exit))
+        ≡ foundInto (now (answers .entry)) (now (work .entry)) (answered (fullIn (now (bytes .entry)) s k)) ⌝ }
 {
     clear(work, s.documents);
     let n = full_list(bytes, s, k as usize, answers, work);

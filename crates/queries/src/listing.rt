@@ -13,16 +13,16 @@ use wavelet::halve;
 ghost use mathlib.Core.Path.{_≡_};
 ghost use Prim.Native.Nat.{_+_, _*_, _^_, _≤_, _<_};
 ghost use lib.ListN.{length};
-ghost use Rattle.model.specs.Lists.{part, overwrite};
+ghost use Rattle.model.specs.Lists.{part};
 ghost use Rattle.model.specs.Opening.{contents};
-ghost use Rattle.model.specs.Queries.{flat, listing, listResult, ofEntries, ofTerms};
+ghost use Rattle.model.specs.Queries.{listing, listResult, ofEntries, ofTerms};
 ghost use Rattle.wavelet.specs.Levels.{Stored, entriesIn};
-ghost use Rattle.wavelet.specs.Spans.{Ordered};
+ghost use Rattle.wavelet.specs.Spans.{span, Ordered};
 ghost use Rattle.archive.specs.Layout.{Opened};
 ghost use Rattle.queries.specs.Answers.{pairsOf};
 ghost use Rattle.archive.specs.Ranges.{boundsIn, Inside};
 ghost use Rattle.queries.specs.Ranges.{listOf};
-ghost use Rattle.queries.specs.Written.{Written};
+ghost use Rattle.queries.specs.Written.{Written, Lists};
 ghost use Rattle.queries.specs.Listing.{pairsUnder};
 
 // The documents of the range lo to hi of the node q of level j, which spans start to end, as pairs from pair number `at` on.
@@ -40,8 +40,9 @@ fn list_node(
     answers: &mut [u32],
 ) -> usize
     requires { ⌜ Stored (now bytes) t ⌝ }
-    requires { ⌜ (j ≤ t .height) × (q < 2 ^ j) × Ordered (t .entries) (record { start = start; lo = lo; hi = hi; end = end }) × (2 * (at + length (pairsUnder (now bytes) t j q (record { start = start; lo = lo; hi = hi; end = end }))) ≤ length (now answers)) ⌝ }
-    ensures { λ r. ⌜ Written (pairsUnder (now (bytes .entry)) t j q (record { start = start; lo = lo; hi = hi; end = end })) at (now (answers .entry)) (now (answers .exit)) r ⌝ }
+    requires { ⌜ (j ≤ t .height) × (q < 2 ^ j) × Ordered (t .entries) (span start lo hi end)
+        × (2 * (at + length (pairsUnder (now bytes) t j q (span start lo hi end))) ≤ length (now answers)) ⌝ }
+    ensures { λ r. ⌜ Written (pairsUnder (now (bytes .entry)) t j q (span start lo hi end)) at (now (answers .entry)) (now (answers .exit)) r ⌝ }
 {
     if lo == hi {
         return at;
@@ -83,7 +84,7 @@ fn list_node(
 fn list_range(bytes: &[u8], t: Levels, a: usize, b: usize, answers: &mut [u32]) -> usize
     requires { ⌜ Stored (now bytes) t ⌝ }
     requires { ⌜ (a ≤ b) × (b ≤ t .entries) × (2 * length (listing (2 ^ t .height) (part a b (entriesIn (now bytes) t))) ≤ length (now answers)) ⌝ }
-    ensures { λ r. ⌜ (r ≡ length (listing (2 ^ t .height) (part a b (entriesIn (now (bytes .entry)) t)))) × (now (answers .exit) ≡ overwrite (flat (listing (2 ^ t .height) (part a b (entriesIn (now (bytes .entry)) t)))) (now (answers .entry))) ⌝ }
+    ensures { λ r. ⌜ Lists (listing (2 ^ t .height) (part a b (entriesIn (now (bytes .entry)) t))) r (now (answers .entry)) (now (answers .exit)) ⌝ }
 {
     list_node(bytes, t, 0, 0, 0, a, b, t.entries, 0, answers)
 }
@@ -92,7 +93,7 @@ fn list_range(bytes: &[u8], t: Levels, a: usize, b: usize, answers: &mut [u32]) 
 pub fn list_in(archive: &[u8], l: Layout, a: usize, b: usize, answers: &mut [u32]) -> usize
     requires { ⌜ Opened (now archive) l ⌝ }
     requires { ⌜ (a ≤ b) × (b ≤ l .levels .entries) × (2 * l .documents ≤ length (now answers)) ⌝ }
-    ensures { λ r. ⌜ (r ≡ length (listing (l .documents) (part a b (contents (now (archive .entry)) .entries)))) × (now (answers .exit) ≡ overwrite (flat (listing (l .documents) (part a b (contents (now (archive .entry)) .entries)))) (now (answers .entry))) ⌝ }
+    ensures { λ r. ⌜ Lists (listing (l .documents) (part a b (contents (now (archive .entry)) .entries))) r (now (answers .entry)) (now (answers .exit)) ⌝ }
 {
     list_range(archive, l.levels, a, b, answers)
 }

@@ -8,7 +8,7 @@ use Rattle.model.specs.Outcome.{Outcome, answered, refused, refuse, andThen}
 use Rattle.model.specs.Opening.{opened}
 use Rattle.model.specs.Queries as model
 use Rattle.model.specs.Queries.{inRange}
-use Rattle.model.specs.TopK.{Ended, doneWith, spentWith}
+use Rattle.model.specs.TopK.{Ended, doneWith, spentWith, Found, SearchResult}
 use Rattle.archive.specs.declared.Layout.{Layout}
 use Rattle.archive.specs.declared.Range.{Range}
 use Rattle.archive.specs.declared.Range.the-variants as range
@@ -20,7 +20,7 @@ use Rattle.top_k.specs.declared.TopK.the-variants as answer
 use Rattle.top_k.specs.declared.Probed.{Probed}
 use Rattle.top_k.specs.declared.Probed.the-variants as probed
 use Rattle.search.specs.Searchable.{Searchable}
-use Rattle.search.specs.Sought.{Asked, entriesOf}
+use Rattle.search.specs.Sought.{Asked, entriesOf, greedyOf, probingOf}
 
 -- ---- the answers
 
@@ -34,6 +34,20 @@ topKOf (answer.Refused number) = refused number
 abbrev pub probedOf : Probed → Outcome ℕ
 probedOf (probed.Pairs listed) = answered listed
 probedOf (probed.Refused number) = refused number
+
+-- the answer, with the final content of the lent slices
+abbrev pub topKIs : TopK → List ℕ → List ℕ → SearchResult Ended
+topKIs r answers work = record { outcome = topKOf r; answers = answers; work = work }
+
+abbrev pub probedIs : Probed → List ℕ → List ℕ → SearchResult ℕ
+probedIs r answers work = record { outcome = probedOf r; answers = answers; work = work }
+
+-- what is found where the question is not refused
+abbrev pub greedyFound : ℕ → ℕ → Outcome Asked → Outcome (Found Ended)
+greedyFound k allowance asked = andThen asked (λ x. answered (greedyOf k allowance x))
+
+abbrev pub probingFound : ℕ → Outcome Asked → Outcome (Found ℕ)
+probingFound k asked = andThen asked (λ x. answered (probingOf k x))
 
 -- ---- the question
 

@@ -14,13 +14,12 @@ use greedy::greedy;
 use probing::probing;
 ghost use mathlib.Core.Path.{_≡_};
 ghost use lib.ListN.{length};
-ghost use Rattle.model.specs.Outcome.{answered, andThen};
+ghost use Rattle.model.specs.Outcome.{answered};
 ghost use Rattle.model.specs.Queries.{ofEntries, ofTerms};
 ghost use Rattle.model.specs.TopK.{foundInto, greedyResult, probingResult};
 ghost use Rattle.archive.specs.Layout.{Opened};
 ghost use Rattle.greedy.specs.Results.{endedIs};
-ghost use Rattle.search.specs.Sought.{greedyOf, probingOf};
-ghost use Rattle.top_k.specs.Asked.{topKOf, probedOf, Ready, askedIn};
+ghost use Rattle.top_k.specs.Asked.{topKOf, topKIs, probedIs, greedyFound, probingFound, Ready, askedIn};
 
 fn answer_of(e: Ended) -> TopK
     ensures { λ r. ⌜ topKOf r ≡ answered (endedIs e) ⌝ }
@@ -41,7 +40,8 @@ fn search_greedily(
     work: &mut [u32],
 ) -> TopK
     requires { ⌜ Ready (now archive) k (length (now answers)) (length (now work)) q ⌝ }
-    ensures { λ r. ⌜ record { outcome = topKOf r; answers = now (answers .exit); work = now (work .exit) } ≡ foundInto (now (answers .entry)) (now (work .entry)) (andThen (askedIn (now (archive .entry)) q) (λ x. answered (greedyOf k allowance x))) ⌝ }
+    ensures { λ r. ⌜ topKIs r (now (answers .exit)) (now (work .exit))
+        ≡ foundInto (now (answers .entry)) (now (work .entry)) (greedyFound k allowance (askedIn (now (archive .entry)) q)) ⌝ }
 {
     match q {
         Query::Refused(number) => TopK::Refused(number),
@@ -58,7 +58,8 @@ fn search_by_probing(
     work: &mut [u32],
 ) -> Probed
     requires { ⌜ Ready (now archive) k (length (now answers)) (length (now work)) q ⌝ }
-    ensures { λ r. ⌜ record { outcome = probedOf r; answers = now (answers .exit); work = now (work .exit) } ≡ foundInto (now (answers .entry)) (now (work .entry)) (andThen (askedIn (now (archive .entry)) q) (λ x. answered (probingOf k x))) ⌝ }
+    ensures { λ r. ⌜ probedIs r (now (answers .exit)) (now (work .exit))
+        ≡ foundInto (now (answers .entry)) (now (work .entry)) (probingFound k (askedIn (now (archive .entry)) q)) ⌝ }
 {
     match q {
         Query::Refused(number) => Probed::Refused(number),
@@ -78,7 +79,8 @@ pub fn greedy_entries_opened(
     work: &mut [u32],
 ) -> TopK
     requires { ⌜ Opened (now archive) layout ⌝ }
-    ensures { λ r. ⌜ record { outcome = topKOf r; answers = now (answers .exit); work = now (work .exit) } ≡ greedyResult (now (archive .entry)) (ofEntries a b) k allowance (now (answers .entry)) (now (work .entry)) ⌝ }
+    ensures { λ r. ⌜ topKIs r (now (answers .exit)) (now (work .exit))
+        ≡ greedyResult (now (archive .entry)) (ofEntries a b) k allowance (now (answers .entry)) (now (work .entry)) ⌝ }
 {
     let range = entry_range(layout, a, b);
     let q = over(layout, range, k, answers.len(), work.len());
@@ -94,7 +96,8 @@ pub fn greedy_entries(
     answers: &mut [u32],
     work: &mut [u32],
 ) -> TopK
-    ensures { λ r. ⌜ record { outcome = topKOf r; answers = now (answers .exit); work = now (work .exit) } ≡ greedyResult (now (archive .entry)) (ofEntries a b) k allowance (now (answers .entry)) (now (work .entry)) ⌝ }
+    ensures { λ r. ⌜ topKIs r (now (answers .exit)) (now (work .exit))
+        ≡ greedyResult (now (archive .entry)) (ofEntries a b) k allowance (now (answers .entry)) (now (work .entry)) ⌝ }
 {
     match open(archive) {
         Opening::Refused(number) => TopK::Refused(number),
@@ -123,7 +126,8 @@ pub fn greedy_terms_opened(
     work: &mut [u32],
 ) -> TopK
     requires { ⌜ Opened (now archive) layout ⌝ }
-    ensures { λ r. ⌜ record { outcome = topKOf r; answers = now (answers .exit); work = now (work .exit) } ≡ greedyResult (now (archive .entry)) (ofTerms f l) k allowance (now (answers .entry)) (now (work .entry)) ⌝ }
+    ensures { λ r. ⌜ topKIs r (now (answers .exit)) (now (work .exit))
+        ≡ greedyResult (now (archive .entry)) (ofTerms f l) k allowance (now (answers .entry)) (now (work .entry)) ⌝ }
 {
     let range = term_range(archive, layout, f, l);
     let q = over(layout, range, k, answers.len(), work.len());
@@ -139,7 +143,8 @@ pub fn greedy_terms(
     answers: &mut [u32],
     work: &mut [u32],
 ) -> TopK
-    ensures { λ r. ⌜ record { outcome = topKOf r; answers = now (answers .exit); work = now (work .exit) } ≡ greedyResult (now (archive .entry)) (ofTerms f l) k allowance (now (answers .entry)) (now (work .entry)) ⌝ }
+    ensures { λ r. ⌜ topKIs r (now (answers .exit)) (now (work .exit))
+        ≡ greedyResult (now (archive .entry)) (ofTerms f l) k allowance (now (answers .entry)) (now (work .entry)) ⌝ }
 {
     match open(archive) {
         Opening::Refused(number) => TopK::Refused(number),
@@ -167,7 +172,8 @@ pub fn probing_entries_opened(
     work: &mut [u32],
 ) -> Probed
     requires { ⌜ Opened (now archive) layout ⌝ }
-    ensures { λ r. ⌜ record { outcome = probedOf r; answers = now (answers .exit); work = now (work .exit) } ≡ probingResult (now (archive .entry)) (ofEntries a b) k (now (answers .entry)) (now (work .entry)) ⌝ }
+    ensures { λ r. ⌜ probedIs r (now (answers .exit)) (now (work .exit))
+        ≡ probingResult (now (archive .entry)) (ofEntries a b) k (now (answers .entry)) (now (work .entry)) ⌝ }
 {
     let range = entry_range(layout, a, b);
     let q = over(layout, range, k, answers.len(), work.len());
@@ -182,7 +188,8 @@ pub fn probing_entries(
     answers: &mut [u32],
     work: &mut [u32],
 ) -> Probed
-    ensures { λ r. ⌜ record { outcome = probedOf r; answers = now (answers .exit); work = now (work .exit) } ≡ probingResult (now (archive .entry)) (ofEntries a b) k (now (answers .entry)) (now (work .entry)) ⌝ }
+    ensures { λ r. ⌜ probedIs r (now (answers .exit)) (now (work .exit))
+        ≡ probingResult (now (archive .entry)) (ofEntries a b) k (now (answers .entry)) (now (work .entry)) ⌝ }
 {
     match open(archive) {
         Opening::Refused(number) => Probed::Refused(number),
@@ -209,7 +216,8 @@ pub fn probing_terms_opened(
     work: &mut [u32],
 ) -> Probed
     requires { ⌜ Opened (now archive) layout ⌝ }
-    ensures { λ r. ⌜ record { outcome = probedOf r; answers = now (answers .exit); work = now (work .exit) } ≡ probingResult (now (archive .entry)) (ofTerms f l) k (now (answers .entry)) (now (work .entry)) ⌝ }
+    ensures { λ r. ⌜ probedIs r (now (answers .exit)) (now (work .exit))
+        ≡ probingResult (now (archive .entry)) (ofTerms f l) k (now (answers .entry)) (now (work .entry)) ⌝ }
 {
     let range = term_range(archive, layout, f, l);
     let q = over(layout, range, k, answers.len(), work.len());
@@ -224,7 +232,8 @@ pub fn probing_terms(
     answers: &mut [u32],
     work: &mut [u32],
 ) -> Probed
-    ensures { λ r. ⌜ record { outcome = probedOf r; answers = now (answers .exit); work = now (work .exit) } ≡ probingResult (now (archive .entry)) (ofTerms f l) k (now (answers .entry)) (now (work .entry)) ⌝ }
+    ensures { λ r. ⌜ probedIs r (now (answers .exit)) (now (work .exit))
+        ≡ probingResult (now (archive .entry)) (ofTerms f l) k (now (answers .entry)) (now (work .entry)) ⌝ }
 {
     match open(archive) {
         Opening::Refused(number) => Probed::Refused(number),

@@ -11,6 +11,9 @@ use Rattle.wavelet.specs.declared.Halves.{Halves}
 use Rattle.wavelet.specs.declared.Place.{Place}
 use Rattle.wavelet.specs.declared.Ranked.{Ranked}
 
+abbrev pub span : ℕ → ℕ → ℕ → ℕ → Span
+span start lo hi end = record { start = start; lo = lo; hi = hi; end = end }
+
 -- the places of a node in a level of n bits are in order
 pub record Ordered (n : ℕ) (s : Span) : Type 0 where
   pub from : s .start ≤ s .lo

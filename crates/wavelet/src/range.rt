@@ -10,7 +10,7 @@ ghost use lib.Dec.{ltb};
 ghost use Rattle.bit_rows.specs.Sequences.{tally};
 ghost use Rattle.model.specs.Lists.{part};
 ghost use Rattle.wavelet.specs.Levels.{Stored, entriesIn};
-ghost use Rattle.wavelet.specs.Spans.{Ordered};
+ghost use Rattle.wavelet.specs.Spans.{span, Ordered};
 ghost use Rattle.wavelet.specs.Ranges.{leafOf, quantileIn};
 
 // How many entries of the range are below v: down by the bits of v, the low half at each 1.
@@ -55,8 +55,8 @@ fn leaf_of(
     r: usize,
 ) -> Counted
     requires { ⌜ Stored (now bytes) t ⌝ }
-    requires { ⌜ (j ≤ t .height) × (q < 2 ^ j) × Ordered (t .entries) (record { start = start; lo = lo; hi = hi; end = end }) ⌝ }
-    ensures { λ c. ⌜ c ≡ leafOf (now (bytes .entry)) t j q (record { start = start; lo = lo; hi = hi; end = end }) r ⌝ }
+    requires { ⌜ (j ≤ t .height) × (q < 2 ^ j) × Ordered (t .entries) (span start lo hi end) ⌝ }
+    ensures { λ c. ⌜ c ≡ leafOf (now (bytes .entry)) t j q (span start lo hi end) r ⌝ }
 {
     if j == t.height {
         return Counted {

@@ -9,13 +9,13 @@ use Rattle.model.specs.Format.{Sizes, withinLimits, archiveLength}
 use Rattle.model.proofs.Format.Valid.{limits-of}
 use Rattle.archive.specs.declared.Layout.{Layout}
 use Rattle.archive.specs.Layout.{sizesIn, Fitting}
-use Rattle.masuvelior.specs.Left.{Given, given, single}
+use Rattle.masuvelior.specs.Left.{Given, given, one}
 use Rattle.masuvelior.proofs.archives.masuvelior_archive_length.Statement.{statement}
 use Rattle.masuvelior.proofs.archives.masuvelior_archive_length.Tie as tie
 
 -- the answer, by whether n, N and W are within their limits
 abbrev answerFor : Sizes → ℕ → Bool → Given
-answerFor s old within = given single (refuse 14 (not within) (answered (archiveLength s))) (old ∷ [])
+answerFor s old within = given one (refuse 14 (not within) (answered (archiveLength s))) (old ∷ [])
 
 abbrev sizesOf : tie.Start → Sizes
 sizesOf s = record { entries = s .args .n; documents = s .args .documents; terms = s .args .terms }

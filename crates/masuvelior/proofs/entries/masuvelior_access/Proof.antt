@@ -1,6 +1,6 @@
 use borrow.Author.Needs.{needs}
 use mathlib.Core.List.{[], _∷_}
-use Rattle.masuvelior.specs.Left.{single}
+use Rattle.masuvelior.specs.Left.{one}
 use Rattle.masuvelior.proofs.Leaving.{given-for}
 use Rattle.masuvelior.proofs.entries.masuvelior_access.Statement.{statement}
 use Rattle.masuvelior.proofs.entries.masuvelior_access.Tie as tie
@@ -14,7 +14,7 @@ number-requires c κs = search needs
 returns : tie.Need-returns
 returns c =
     let g = c .before .before .before .before .args in
-    given-for single (g .document .now ∷ []) (c .number .ensures) (c .before .before .access .ensures)
+    given-for one (g .document .now ∷ []) (c .number .ensures) (c .before .before .access .ensures)
 
 pub masuvelior-access-spec : {M : Type 1} → statement M
 masuvelior-access-spec = tie.close (tie.spec access-requires number-requires returns)

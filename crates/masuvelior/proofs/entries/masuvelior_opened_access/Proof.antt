@@ -1,6 +1,6 @@
 use borrow.Author.Needs.{needs}
 use mathlib.Core.List.{[], _∷_}
-use Rattle.masuvelior.specs.Left.{single}
+use Rattle.masuvelior.specs.Left.{one}
 use Rattle.masuvelior.proofs.Leaving.{given-for}
 use Rattle.masuvelior.proofs.entries.masuvelior_opened_access.Statement.{statement}
 use Rattle.masuvelior.proofs.entries.masuvelior_opened_access.Tie as tie
@@ -17,7 +17,7 @@ number-requires c κs = search needs
 returns : tie.Need-returns
 returns c =
     let g = c .before .before .before .before .before .args in
-    given-for single (g .document .now ∷ []) (c .number .ensures) (c .before .before .access-opened .ensures)
+    given-for one (g .document .now ∷ []) (c .number .ensures) (c .before .before .access-opened .ensures)
 
 pub masuvelior-opened-access-spec : {M : Type 1} → statement M
 masuvelior-opened-access-spec = tie.close (tie.spec layout-in-requires access-opened-requires number-requires returns)

@@ -1,6 +1,6 @@
 use borrow.Author.Needs.{needs}
 use mathlib.Core.List.{[], _∷_}
-use Rattle.masuvelior.specs.Left.{single}
+use Rattle.masuvelior.specs.Left.{one}
 use Rattle.masuvelior.proofs.Leaving.{given-for}
 use Rattle.masuvelior.proofs.entries.masuvelior_opened_rank.Statement.{statement}
 use Rattle.masuvelior.proofs.entries.masuvelior_opened_rank.Tie as tie
@@ -17,7 +17,7 @@ number-requires c κs = search needs
 returns : tie.Need-returns
 returns c =
     let g = c .before .before .before .before .before .args in
-    given-for single (g .count .now ∷ []) (c .number .ensures) (c .before .before .rank-opened .ensures)
+    given-for one (g .count .now ∷ []) (c .number .ensures) (c .before .before .rank-opened .ensures)
 
 pub masuvelior-opened-rank-spec : {M : Type 1} → statement M
 masuvelior-opened-rank-spec = tie.close (tie.spec layout-in-requires rank-opened-requires number-requires returns)

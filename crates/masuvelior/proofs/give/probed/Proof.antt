@@ -3,7 +3,7 @@ use mathlib.Core.Path.{sym, ap}
 use mathlib.Core.List.{[], _∷_}
 use Rattle.top_k.specs.declared.Probed.{Probed}
 use Rattle.top_k.specs.Asked.{probedOf}
-use Rattle.masuvelior.specs.Left.{given, single}
+use Rattle.masuvelior.specs.Left.{given, one}
 use Rattle.masuvelior.proofs.give.probed.Statement.{statement}
 use Rattle.masuvelior.proofs.give.probed.Tie as tie
 
@@ -17,13 +17,13 @@ returns : tie.Need-returns
 unfolding given
 returns c =
     let g = c .before .before .before .args in
-    sym (ap (λ (x : Probed). given single (probedOf x) (g .out .now ∷ [])) (c .before .answer .given .1))
+    sym (ap (λ (x : Probed). given one (probedOf x) (g .out .now ∷ [])) (c .before .answer .given .1))
 
 returns-2 : tie.Need-returns-2
 unfolding given
 returns-2 c =
     let g = c .before .before .before .args in
-    sym (ap (λ (x : Probed). given single (probedOf x) (g .out .now ∷ [])) (c .before .answer2 .given .1))
+    sym (ap (λ (x : Probed). given one (probedOf x) (g .out .now ∷ [])) (c .before .answer2 .given .1))
 
 pub probed-spec : {M : Type 1} → statement M
 probed-spec = tie.close (tie.spec enum-known-answer enum-known-answer-2 returns returns-2)

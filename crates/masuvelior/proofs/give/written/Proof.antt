@@ -3,7 +3,7 @@ use mathlib.Core.Path.{sym, ap}
 use mathlib.Core.List.{[], _∷_}
 use Rattle.codec.specs.declared.Written.{Written}
 use Rattle.codec.specs.Writing.{writtenOf}
-use Rattle.masuvelior.specs.Left.{given, single}
+use Rattle.masuvelior.specs.Left.{given, one}
 use Rattle.masuvelior.proofs.give.written.Statement.{statement}
 use Rattle.masuvelior.proofs.give.written.Tie as tie
 
@@ -17,13 +17,13 @@ returns : tie.Need-returns
 unfolding given
 returns c =
     let g = c .before .before .before .args in
-    sym (ap (λ (x : Written). given single (writtenOf x) (g .out .now ∷ [])) (c .before .answer .given .1))
+    sym (ap (λ (x : Written). given one (writtenOf x) (g .out .now ∷ [])) (c .before .answer .given .1))
 
 returns-2 : tie.Need-returns-2
 unfolding given
 returns-2 c =
     let g = c .before .before .before .args in
-    sym (ap (λ (x : Written). given single (writtenOf x) (g .out .now ∷ [])) (c .before .answer2 .given .1))
+    sym (ap (λ (x : Written). given one (writtenOf x) (g .out .now ∷ [])) (c .before .answer2 .given .1))
 
 pub written-spec : {M : Type 1} → statement M
 written-spec = tie.close (tie.spec enum-known-answer enum-known-answer-2 returns returns-2)

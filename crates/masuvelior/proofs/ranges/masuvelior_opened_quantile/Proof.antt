@@ -1,6 +1,6 @@
 use borrow.Author.Needs.{needs}
 use mathlib.Core.List.{[], _∷_}
-use Rattle.masuvelior.specs.Left.{single}
+use Rattle.masuvelior.specs.Left.{one}
 use Rattle.masuvelior.proofs.Leaving.{given-for}
 use Rattle.masuvelior.proofs.ranges.masuvelior_opened_quantile.Statement.{statement}
 use Rattle.masuvelior.proofs.ranges.masuvelior_opened_quantile.Tie as tie
@@ -17,7 +17,7 @@ number-requires c κs = search needs
 returns : tie.Need-returns
 returns c =
     let g = c .before .before .before .before .before .args in
-    given-for single (g .document .now ∷ []) (c .number .ensures) (c .before .before .quantile-opened .ensures)
+    given-for one (g .document .now ∷ []) (c .number .ensures) (c .before .before .quantile-opened .ensures)
 
 pub masuvelior-opened-quantile-spec : {M : Type 1} → statement M
 masuvelior-opened-quantile-spec = tie.close (tie.spec layout-in-requires quantile-opened-requires number-requires returns)

@@ -1,6 +1,6 @@
 use borrow.Author.Needs.{needs}
 use mathlib.Core.List.{[], _∷_}
-use Rattle.masuvelior.specs.Left.{single}
+use Rattle.masuvelior.specs.Left.{one}
 use Rattle.masuvelior.proofs.Leaving.{given-for}
 use Rattle.masuvelior.proofs.ranges.masuvelior_opened_quantile_terms.Statement.{statement}
 use Rattle.masuvelior.proofs.ranges.masuvelior_opened_quantile_terms.Tie as tie
@@ -17,7 +17,7 @@ number-requires c κs = search needs
 returns : tie.Need-returns
 returns c =
     let g = c .before .before .before .before .before .args in
-    given-for single (g .document .now ∷ []) (c .number .ensures) (c .before .before .quantile-terms-opened .ensures)
+    given-for one (g .document .now ∷ []) (c .number .ensures) (c .before .before .quantile-terms-opened .ensures)
 
 pub masuvelior-opened-quantile-terms-spec : {M : Type 1} → statement M
 masuvelior-opened-quantile-terms-spec = tie.close (tie.spec layout-in-requires quantile-terms-opened-requires number-requires returns)

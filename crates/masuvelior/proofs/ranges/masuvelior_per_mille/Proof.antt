@@ -1,6 +1,6 @@
 use borrow.Author.Needs.{needs}
 use mathlib.Core.List.{[], _∷_}
-use Rattle.masuvelior.specs.Left.{single}
+use Rattle.masuvelior.specs.Left.{one}
 use Rattle.masuvelior.proofs.Leaving.{given-for}
 use Rattle.masuvelior.proofs.ranges.masuvelior_per_mille.Statement.{statement}
 use Rattle.masuvelior.proofs.ranges.masuvelior_per_mille.Tie as tie
@@ -14,7 +14,7 @@ number-requires c κs = search needs
 returns : tie.Need-returns
 returns c =
     let g = c .before .before .before .args in
-    given-for single (g .rate .now ∷ []) (c .number .ensures) (c .before .before .per-mille .ensures)
+    given-for one (g .rate .now ∷ []) (c .number .ensures) (c .before .before .per-mille .ensures)
 
 pub masuvelior-per-mille-spec : {M : Type 1} → statement M
 masuvelior-per-mille-spec = tie.close (tie.spec per-mille-requires number-requires returns)

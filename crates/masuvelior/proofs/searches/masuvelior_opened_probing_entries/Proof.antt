@@ -1,6 +1,6 @@
 use borrow.Author.Needs.{needs}
 use mathlib.Core.List.{[], _∷_}
-use Rattle.masuvelior.specs.Left.{single}
+use Rattle.masuvelior.specs.Left.{one}
 use Rattle.masuvelior.proofs.Leaving.{search-left}
 use Rattle.masuvelior.proofs.searches.masuvelior_opened_probing_entries.Statement.{statement}
 use Rattle.masuvelior.proofs.searches.masuvelior_opened_probing_entries.Tie as tie
@@ -23,7 +23,7 @@ same-length-2 c = search needs
 returns : tie.Need-returns
 returns c =
     let g = c .before .before .before .before .before .before .before .before .before .before .before .before .before .args in
-    search-left single (g .listed .now ∷ []) (c .probed .ensures) (c .before .before .before .before .before .before .probing-entries-opened .ensures)
+    search-left one (g .listed .now ∷ []) (c .probed .ensures) (c .before .before .before .before .before .before .probing-entries-opened .ensures)
 
 pub masuvelior-opened-probing-entries-spec : {M : Type 1} → statement M
 masuvelior-opened-probing-entries-spec = tie.close (tie.spec layout-in-requires probing-entries-opened-requires probed-requires same-length same-length-2 returns)

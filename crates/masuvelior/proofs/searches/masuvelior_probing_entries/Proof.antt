@@ -1,6 +1,6 @@
 use borrow.Author.Needs.{needs}
 use mathlib.Core.List.{[], _∷_}
-use Rattle.masuvelior.specs.Left.{single}
+use Rattle.masuvelior.specs.Left.{one}
 use Rattle.masuvelior.proofs.Leaving.{search-left}
 use Rattle.masuvelior.proofs.searches.masuvelior_probing_entries.Statement.{statement}
 use Rattle.masuvelior.proofs.searches.masuvelior_probing_entries.Tie as tie
@@ -20,7 +20,7 @@ same-length-2 c = search needs
 returns : tie.Need-returns
 returns c =
     let g = c .before .before .before .before .before .before .before .before .before .before .before .before .args in
-    search-left single (g .listed .now ∷ []) (c .probed .ensures) (c .before .before .before .before .before .before .probing-entries .ensures)
+    search-left one (g .listed .now ∷ []) (c .probed .ensures) (c .before .before .before .before .before .before .probing-entries .ensures)
 
 pub masuvelior-probing-entries-spec : {M : Type 1} → statement M
 masuvelior-probing-entries-spec = tie.close (tie.spec probing-entries-requires probed-requires same-length same-length-2 returns)

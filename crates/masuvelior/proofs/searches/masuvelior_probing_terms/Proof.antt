@@ -1,6 +1,6 @@
 use borrow.Author.Needs.{needs}
 use mathlib.Core.List.{[], _∷_}
-use Rattle.masuvelior.specs.Left.{single}
+use Rattle.masuvelior.specs.Left.{one}
 use Rattle.masuvelior.proofs.Leaving.{search-left}
 use Rattle.masuvelior.proofs.searches.masuvelior_probing_terms.Statement.{statement}
 use Rattle.masuvelior.proofs.searches.masuvelior_probing_terms.Tie as tie
@@ -20,7 +20,7 @@ same-length-2 c = search needs
 returns : tie.Need-returns
 returns c =
     let g = c .before .before .before .before .before .before .before .before .before .before .before .before .args in
-    search-left single (g .listed .now ∷ []) (c .probed .ensures) (c .before .before .before .before .before .before .probing-terms .ensures)
+    search-left one (g .listed .now ∷ []) (c .probed .ensures) (c .before .before .before .before .before .before .probing-terms .ensures)
 
 pub masuvelior-probing-terms-spec : {M : Type 1} → statement M
 masuvelior-probing-terms-spec = tie.close (tie.spec probing-terms-requires probed-requires same-length same-length-2 returns)
