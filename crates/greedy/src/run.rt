@@ -4,7 +4,7 @@ use crate::Move;
 use crate::node::pack;
 use crate::step::step;
 use search::Search;
-use search::clear;
+use search::finish;
 use wavelet::Span;
 ghost use mathlib.Core.Path.{_≡_};
 ghost use Prim.Native.Nat.{_+_, _*_, _^_, _≤_, _<_, min};
@@ -154,6 +154,6 @@ pub fn greedy(
     while goes_on(p, k) {
         p = advance(bytes, s, allowance, p, answers, work);
     }
-    clear(work, 4 * s.documents);
+    finish(s, work);
     ended(p)
 }

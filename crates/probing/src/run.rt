@@ -5,6 +5,7 @@ use crate::rounds::first_step;
 use crate::rounds::goes_on;
 use search::Search;
 use search::clear;
+use search::finish;
 use wavelet::quantile;
 ghost use mathlib.Core.Path.{_≡_};
 ghost use Prim.Native.Nat.{_-_, _*_, _^_, _≤_, _<_, min};
@@ -100,6 +101,6 @@ pub fn probing(bytes: &[u8], s: Search, k: u32, answers: &mut [u32], work: &mut 
 {
     clear(work, s.documents);
     let n = full_list(bytes, s, k as usize, answers, work);
-    clear(work, 4 * s.documents);
+    finish(s, work);
     n
 }

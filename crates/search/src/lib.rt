@@ -1,7 +1,7 @@
 // What both searches for top-k take: the tree with the range in it, and a work slice that is cleared at the end.
 use wavelet::Levels;
 ghost use mathlib.Core.Path.{_≡_};
-ghost use Prim.Native.Nat.{_≤_};
+ghost use Prim.Native.Nat.{_*_, _≤_};
 ghost use lib.ListN.{length, replicate};
 ghost use Rattle.model.specs.Lists.{overwrite};
 
@@ -23,4 +23,12 @@ pub fn clear(work: &mut [u32], n: usize)
         work[i] = 0;
         i += 1;
     }
+}
+
+// Sets the numbers of the work slice that a search may use to 0, four for each document; the rest stays.
+pub fn finish(s: Search, work: &mut [u32])
+    requires { ⌜ (s .documents ≤ 4096) × (4 * s .documents ≤ length (now work)) ⌝ }
+    ensures { λ r. ⌜ now (work .exit) ≡ overwrite (replicate (4 * s .documents) 0) (now (work .entry)) ⌝ }
+{
+    clear(work, 4 * s.documents);
 }

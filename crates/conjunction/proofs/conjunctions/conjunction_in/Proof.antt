@@ -159,7 +159,7 @@ loop-again c =
     let u = turn (g .archive .now) (g .l) (s .pre .0) (g .q) (s .pre .1 .0) eight (k .at) x y e in
     let w = walking-next lib (g .l .levels .height) ts (g .answers .now) (k .inv .0) x y e (rw (documents-are (g .archive .now) (g .l) (s .pre .0)) (u .lt)) (c .before .before .put-pair .ensures) in
     let n = c .before .before .before .before .before .before .before .before .next-common in
-    let r : n .result ≡ Document x y = cc in
+    let r : n .result ≡ Document x y = c .before .before .before .before .before .document .given .1 in
     let held = subst (HeldAt (termSpan (g .archive .now) (g .l) (g .q)) (g .q .size) (n .last .1 .1 .1 .1 .0) (g .l .levels .height)) r (n .ensures .1) in
     (w, rw (add-one x) held, n .kept .1 .1 .1 .1 .0 ∙ k .inv .2)
 

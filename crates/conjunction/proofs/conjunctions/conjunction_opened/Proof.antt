@@ -1,6 +1,6 @@
 use borrow.Author.Needs.{needs}
 use native.Mathlib.Omega.{arith}
-use mathlib.Core.Path.{_≡_}
+use mathlib.Core.Path.{_≡_, sym, _∙_}
 use mathlib.Core.Bool.{true, false}
 use lib.ListN.{take}
 use lib.Dec.{leb}
@@ -32,7 +32,7 @@ returns-3 : tie.Need-returns-3
 returns-3 c =
     let s = c .before .before .before .before .before .before .before .before in
     let g = s .args in
-    let e : any (leb (g .l .terms)) (take (g .q .size) (g .q .numbers)) ≡ true = cc in
+    let e : any (leb (g .l .terms)) (take (g .q .size) (g .q .numbers)) ≡ true = sym (c .before .term-missing .ensures) ∙ c .if3 .taken in
     terms-missing (g .archive .now) (g .l) (s .pre) (g .q .numbers) (g .q .size) (g .answers .now) (c .before .before .before .before .if1 .left) (c .before .before .if2 .left) e
 
 mul-if4 : tie.Need-mul-if4
@@ -45,14 +45,14 @@ returns-4 : tie.Need-returns-4
 returns-4 c =
     let s = c .before .before .before .before .before .before .before .before .before .before in
     let g = s .args in
-    let e : any (leb (g .l .terms)) (take (g .q .size) (g .q .numbers)) ≡ false = cc in
+    let e : any (leb (g .l .terms)) (take (g .q .size) (g .q .numbers)) ≡ false = sym (c .before .before .before .term-missing .ensures) ∙ c .before .before .if3 .left in
     terms-short (g .archive .now) (g .l) (s .pre) (g .q .numbers) (g .q .size) (g .answers .now) (c .before .before .before .before .before .before .if1 .left) (c .before .before .before .before .if2 .left) e (c .if4 .taken)
 
 conjunction-in-requires : tie.Need-conjunction-in-requires
 conjunction-in-requires c κs =
     let s = c .before .before .before .before .before .before .before .before .before .before .before in
     let g = s .args in
-    let e : any (leb (g .l .terms)) (take (g .q .size) (g .q .numbers)) ≡ false = cc in
+    let e : any (leb (g .l .terms)) (take (g .q .size) (g .q .numbers)) ≡ false = sym (c .before .before .before .before .term-missing .ensures) ∙ c .before .before .before .if3 .left in
     let z = c .before .before .before .before .before .before .before .if1 .left in (
       s .pre,
       (
@@ -81,7 +81,7 @@ returns-5 c =
     let s = c .before .before .before .before .before .before .before .before .before .before .before .before .before .before in
     let g = s .args in
     let k = c .before .before .conjunction-in in
-    let e : any (leb (g .l .terms)) (take (g .q .size) (g .q .numbers)) ≡ false = cc in
+    let e : any (leb (g .l .terms)) (take (g .q .size) (g .q .numbers)) ≡ false = sym (c .before .before .before .before .before .before .before .term-missing .ensures) ∙ c .before .before .before .before .before .before .if3 .left in
     terms-answered (g .archive .now) (g .l) (s .pre) (g .q .numbers) (g .q .size) (g .answers .now) (c .before .before .before .before .before .before .before .before .before .before .if1 .left) (c .before .before .before .before .before .before .before .before .if2 .left) e (c .before .before .before .before .if4 .left) (k .result) (k .last .1 .1 .1 .0) (k .ensures .0) (k .ensures .1)
 
 pub conjunction-opened-spec : {M : Type 1} → statement M

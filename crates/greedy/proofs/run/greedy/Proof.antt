@@ -68,42 +68,32 @@ loop-again c =
     searching-step (a .bytes .now) (a .s) (s .pre .0) (a .k) (a .allowance) (a .answers .now) (c .before .before .before .before .before .before .before .before .before .before .before .before .begin .last .1 .0) (l .answers) (l .work) (l .p) (l .inv) on (s .pre .1 .0)
     (r .last .1 .1 .1 .1 .0) (r .last .1 .1 .1 .1 .1 .0) (r .result) (r .ensures)
 
-mul-clear : tie.Need-mul-clear Inv-loop μ-loop
-mul-clear c = let few = c .before .before .before .before .before .before .before .before .before .before .before .before .pre .0 .few in omega arith
-
-clear-requires : tie.Need-clear-requires Inv-loop μ-loop
-clear-requires c κs =
-    let k = c .before .before .before .before .loop .inv .kept .room in
-    omega arith
+finish-requires : tie.Need-finish-requires Inv-loop μ-loop
+finish-requires c κs = (c .before .before .before .before .before .before .before .before .before .before .before .pre .0 .few, c .before .before .before .loop .inv .kept .room)
 
 ended-requires : tie.Need-ended-requires Inv-loop μ-loop
 ended-requires c κs =
-    let s = c .before .before .before .before .before .before .before .before .before .before .before .before .before .before .before in
+    let s = c .before .before .before .before .before .before .before .before .before .before .before .before .before .before in
     let a = s .args in
-    let l = c .before .before .before .before .before .before .before .loop in
+    let l = c .before .before .before .before .before .before .loop in
     let k = s .fits .k in
-    omega (arith, listed-le (a .bytes .now) (a .s) (s .pre .0) (a .k) (a .allowance) (a .answers .now) (c .before .before .before .before .before .before .before .before .before .before .begin .last .1 .0) (l .answers) (l .work) (l .p) (l .inv))
+    omega (arith, listed-le (a .bytes .now) (a .s) (s .pre .0) (a .k) (a .allowance) (a .answers .now) (c .before .before .before .before .before .before .before .before .before .begin .last .1 .0) (l .answers) (l .work) (l .p) (l .inv))
 
 same-length : tie.Need-same-length Inv-loop μ-loop
-same-length c =
-    c .before .before .before .before .before .before .before .before .loop .inv .course .size
+same-length c = c .before .before .before .before .before .before .before .loop .inv .course .size
 
 same-length-2 : tie.Need-same-length-2 Inv-loop μ-loop
-same-length-2 c =
-    let b = c .before .before .before .before .before .before .before .before .before .before .before .begin .kept .1 .0 in
-    let z = c .before .before .before .clear .kept .0 in
-    let l = c .before .before .before .before .before .before .before .before .loop .inv .size in
-    omega arith
+same-length-2 c = c .before .before .before .finish .kept .1 .0 ∙ c .before .before .before .before .before .before .before .loop .inv .size ∙ c .before .before .before .before .before .before .before .before .before .before .begin .kept .1 .0
 
 returns : tie.Need-returns Inv-loop μ-loop
 returns c =
-    let s = c .before .before .before .before .before .before .before .before .before .before .before .before .before .before .before .before in
+    let s = c .before .before .before .before .before .before .before .before .before .before .before .before .before .before .before in
     let a = s .args in
-    let l = c .before .before .before .before .before .before .before .before .loop in
-    let b = c .before .before .before .before .before .before .before .before .before .before .before .begin in
-    let off : goesOn (l .p) (a .k) ≡ false = sym (c .before .before .before .before .before .before .before .goes-on .ensures) ∙ c .before .before .before .before .before .before .if1 .left in
-    searching-end (a .bytes .now) (a .s) (s .pre .0) (a .k) (a .allowance) (a .answers .now) (b .last .1 .0) (l .answers) (l .work) (l .p) (l .inv) off (a .work .now) (c .before .before .before .clear .last .0) (c .ended .result)
-    (begun-rest (a .bytes .now) (a .s) (s .pre .0) (a .work .now) (b .last .1 .0) (b .result) (b .ensures)) (c .ended .ensures) (c .before .before .before .clear .ensures)
+    let l = c .before .before .before .before .before .before .before .loop in
+    let b = c .before .before .before .before .before .before .before .before .before .before .begin in
+    let off : goesOn (l .p) (a .k) ≡ false = sym (c .before .before .before .before .before .before .goes-on .ensures) ∙ c .before .before .before .before .before .if1 .left in
+    searching-end (a .bytes .now) (a .s) (s .pre .0) (a .k) (a .allowance) (a .answers .now) (b .last .1 .0) (l .answers) (l .work) (l .p) (l .inv) off (a .work .now) (c .before .before .before .finish .last .1 .0) (c .ended .result)
+    (begun-rest (a .bytes .now) (a .s) (s .pre .0) (a .work .now) (b .last .1 .0) (b .result) (b .ensures)) (c .ended .ensures) (c .before .before .before .finish .ensures)
 
 pub greedy-spec : {M : Type 1} → statement M
 greedy-spec =
@@ -117,8 +107,7 @@ greedy-spec =
     advance-requires
     loop-less
     loop-again
-    mul-clear
-    clear-requires
+    finish-requires
     ended-requires
     same-length
     same-length-2

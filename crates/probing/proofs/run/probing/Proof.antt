@@ -20,11 +20,8 @@ full-list-requires c κs =
     let rest = drop (length (replicate {A = ℕ} N 0)) (s .args .work .now) in
     (s .pre .0, ((omega arith, s .pre .1 .0), ap (marked N) (c .before .before .before .before .clear .ensures) ∙ marked-clear N N rest (omega arith)))
 
-mul-clear : tie.Need-mul-clear
-mul-clear c = search needs
-
-clear-requires-2 : tie.Need-clear-requires-2
-clear-requires-2 c κs = search needs
+finish-requires : tie.Need-finish-requires
+finish-requires c κs = search needs
 
 same-length : tie.Need-same-length
 same-length c = search needs
@@ -34,12 +31,12 @@ same-length-2 c = search needs
 
 returns : tie.Need-returns
 returns c =
-    let m = c .before .before .before .before .before .before .before .before .before in
+    let m = c .before .before .before .before .before .before .before .before in
     let s = m .before .before .before .before .before .before .before .before .before .before in
     let N = s .args .s .documents in
     let full = m .full-list .ensures in
     let rest = full .1 .1 ∙ ap (drop N) (m .before .before .before .before .before .clear .ensures) in
-    let cleared = c .before .before .clear2 .ensures ∙ clear-again N (4 * N) (s .args .work .now) (m .full-list .last .1 .1 .1 .1 .0) (omega arith) rest in
+    let cleared = c .before .before .finish .ensures ∙ clear-again N (4 * N) (s .args .work .now) (m .full-list .last .1 .1 .1 .1 .0) (omega arith) rest in
     λ i. listedIs (full .0 i) (full .1 .0 i) (cleared i)
 
 pub probing-spec : {M : Type 1} → statement M
@@ -48,8 +45,7 @@ probing-spec =
     (tie.spec
     clear-requires
     full-list-requires
-    mul-clear
-    clear-requires-2
+    finish-requires
     same-length
     same-length-2
     returns)

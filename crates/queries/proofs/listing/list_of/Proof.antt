@@ -36,7 +36,7 @@ list-in-requires c κs =
     let g = s .args in
     let a : ℕ = c .before .before .before .before .range .given .0 .0 in
     let z : ℕ = c .before .before .before .before .range .given .0 .1 .0 in
-    let e : g .range ≡ Entries a z = cc in
+    let e : g .range ≡ Entries a z = c .before .before .before .before .range .given .1 in
     let inside : (a ≤ z) × (z ≤ g .l .levels .entries) = subst (Inside (g .l .levels .entries)) e (s .pre .1) in
     (s .pre .0, (inside .0, inside .1, c .before .if1 .left))
 
@@ -46,7 +46,7 @@ cast-t18 c =
     let g = s .args in
     let a : ℕ = c .before .before .before .before .before .before .before .range .given .0 .0 in
     let z : ℕ = c .before .before .before .before .before .before .before .range .given .0 .1 .0 in
-    let e : g .range ≡ Entries a z = cc in
+    let e : g .range ≡ Entries a z = c .before .before .before .before .before .before .before .range .given .1 in
     let inside : (a ≤ z) × (z ≤ g .l .levels .entries) = subst (Inside (g .l .levels .entries)) e (s .pre .1) in
     omega (arith, c .before .before .list-in .ensures .0, fitting (g .archive .now) (g .l) (s .pre .0) .documents, listing-le (g .l .documents) (part a z (contents (g .archive .now) .entries)))
 
@@ -59,7 +59,7 @@ returns c =
     let g = s .args in
     let a : ℕ = c .before .before .before .range .given .0 .0 in
     let z : ℕ = c .before .before .before .range .given .0 .1 .0 in
-    let e : g .range ≡ Entries a z = cc in
+    let e : g .range ≡ Entries a z = c .before .before .before .range .given .1 in
     let inside : (a ≤ z) × (z ≤ g .l .levels .entries) = subst (Inside (g .l .levels .entries)) e (s .pre .1) in
     let n = documents-are (g .archive .now) (g .l) (s .pre .0) in
     rw (e, lt-ltb (length (g .answers .now)) (2 * contents (g .archive .now) .documents) (rw n (c .if1 .taken)))
@@ -73,7 +73,7 @@ returns-2 c =
     let g = s .args in
     let a : ℕ = c .before .before .before .before .before .before .before .range .given .0 .0 in
     let z : ℕ = c .before .before .before .before .before .before .before .range .given .0 .1 .0 in
-    let e : g .range ≡ Entries a z = cc in
+    let e : g .range ≡ Entries a z = c .before .before .before .before .before .before .before .range .given .1 in
     let inside : (a ≤ z) × (z ≤ g .l .levels .entries) = subst (Inside (g .l .levels .entries)) e (s .pre .1) in
     let n = documents-are (g .archive .now) (g .l) (s .pre .0) in
     let k = c .before .before .list-in in
@@ -85,7 +85,7 @@ returns-3 : tie.Need-returns-3
 returns-3 c =
     let s = c .before .before .before .before .before in
     let g = s .args in
-    let e : g .range ≡ Refused (c .before .range2 .given .0 .0) = cc in
+    let e : g .range ≡ Refused (c .before .range2 .given .0 .0) = c .before .range2 .given .1 in
     rw e
 
 pub list-of-spec : {M : Type 1} → statement M

@@ -23,7 +23,7 @@ sub-if1 c =
     let g = s .args in
     let a : ℕ = c .before .range .given .0 .0 in
     let z : ℕ = c .before .range .given .0 .1 .0 in
-    let e : g .range ≡ Entries a z = cc in
+    let e : g .range ≡ Entries a z = c .before .range .given .1 in
     let inside : (a ≤ z) × (z ≤ g .l .levels .entries) = subst (Inside (g .l .levels .entries)) e (s .pre .1) in
     inside .0
 
@@ -39,7 +39,7 @@ quantile-in-requires c κs =
     let g = s .args in
     let a : ℕ = c .before .before .range .given .0 .0 in
     let z : ℕ = c .before .before .range .given .0 .1 .0 in
-    let e : g .range ≡ Entries a z = cc in
+    let e : g .range ≡ Entries a z = c .before .before .range .given .1 in
     let inside : (a ≤ z) × (z ≤ g .l .levels .entries) = subst (Inside (g .l .levels .entries)) e (s .pre .1) in
     (s .pre .0, (inside .0, inside .1, c .if1 .left))
 
@@ -58,7 +58,7 @@ returns c =
     let g = s .args in
     let a : ℕ = c .before .before .range .given .0 .0 in
     let z : ℕ = c .before .before .range .given .0 .1 .0 in
-    let e : g .range ≡ Entries a z = cc in
+    let e : g .range ≡ Entries a z = c .before .before .range .given .1 in
     let inside : (a ≤ z) × (z ≤ g .l .levels .entries) = subst (Inside (g .l .levels .entries)) e (s .pre .1) in
     let xs : List ℕ = contents (g .archive .now) .entries in
     let few : z ≤ length xs = rw (entries-size (g .archive .now) (g .l) (s .pre .0)) (inside .1) in
@@ -70,7 +70,7 @@ returns-2 c =
     let g = s .args in
     let a : ℕ = c .before .before .before .range .given .0 .0 in
     let z : ℕ = c .before .before .before .range .given .0 .1 .0 in
-    let e : g .range ≡ Entries a z = cc in
+    let e : g .range ≡ Entries a z = c .before .before .before .range .given .1 in
     let inside : (a ≤ z) × (z ≤ g .l .levels .entries) = subst (Inside (g .l .levels .entries)) e (s .pre .1) in
     let xs : List ℕ = contents (g .archive .now) .entries in
     let few : z ≤ length xs = rw (entries-size (g .archive .now) (g .l) (s .pre .0)) (inside .1) in
@@ -80,7 +80,7 @@ returns-3 : tie.Need-returns-3
 returns-3 c =
     let s = c .before .before .before .before in
     let g = s .args in
-    let e : g .range ≡ Refused (c .before .range2 .given .0 .0) = cc in
+    let e : g .range ≡ Refused (c .before .range2 .given .0 .0) = c .before .range2 .given .1 in
     rw e
 
 pub quantile-of-spec : {M : Type 1} → statement M

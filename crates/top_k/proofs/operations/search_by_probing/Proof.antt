@@ -25,13 +25,16 @@ probing-requires c κs =
     let s = c .before .before .before .before .before .before .before .before in
     subst (Ready (s .args .archive .now) (s .args .k) (length (s .args .answers .now)) (length (s .args .work .now))) (c .before .before .before .q2 .given .1) (s .pre)
 
+answered-is : {m n : ℕ} → answered m ≡ answered n → m ≡ n
+answered-is e = cc
+
 cast-t14 : tie.Need-cast-t14
 cast-t14 c =
     let s = c .before .before .before .before .before .before .before .before .before .before .before .before .before in
     let x = c .before .before .before .before .before .before .before .before .q2 .given .0 .0 in
     let full = ranking (listing (x .documents) (rangeOf (s .args .archive .now) x)) in
     let said = ap (λ (r : SearchResult ℕ). r .outcome) (c .before .before .before .before .probing .ensures) in
-    let e : c .before .before .before .before .probing .result ≡ length (take (s .args .k) full) = cc in
+    let e : c .before .before .before .before .probing .result ≡ length (take (s .args .k) full) = answered-is said in
     record { fits = omega (arith, length-take (s .args .k) full) }
 
 returns : tie.Need-returns
