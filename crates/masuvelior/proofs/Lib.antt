@@ -1,4 +1,2 @@
 -- Laws of the exports, for their proofs.
-pub mod Chosen
-pub mod Leaving
 pub mod Narrow

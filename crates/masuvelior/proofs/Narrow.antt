@@ -14,7 +14,7 @@ use Rattle.model.proofs.Format.WriteBack.{accepted}
 use Rattle.codec.specs.declared.Reading.{Reading}
 use Rattle.codec.specs.declared.Reading.the-variants.{Read, Refused}
 use Rattle.codec.specs.Reading.{readingOf}
-use Rattle.masuvelior.specs.Left.{Narrow}
+use Rattle.ffi.specs.Left.{Narrow}
 
 pub limits-narrow : (s : Sizes) → Limits s → (s .entries < 2 ^ 32) × (s .documents < 2 ^ 32) × (s .terms < 2 ^ 32)
 limits-narrow s l = (omega (arith, l .entries), omega (arith, l .documents), omega (arith, l .terms))

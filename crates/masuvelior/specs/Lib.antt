@@ -1,4 +1,2 @@
--- What the contracts of masuvelior cite, beside the definitions of model.
-pub mod Left
-pub mod Chosen
+-- What the contracts of masuvelior cite, beside the definitions of model and of ffi.
 pub mod Length

@@ -1,11 +1,11 @@
 // The archive itself: the check on opening, the length, the writer and the reader.
-use crate::give;
 use archive::Opening;
+use ffi::give;
 ghost use mathlib.Core.Path.{_≡_};
 ghost use Rattle.model.specs.Format.{library, writeResult};
 ghost use Rattle.model.specs.Opening.{opening, readResult};
 ghost use Rattle.archive.specs.Layout.{IsArchive};
-ghost use Rattle.masuvelior.specs.Left.{given, sizes, writeLeft, readLeft, coded, one, two, three, left};
+ghost use Rattle.ffi.specs.Left.{given, sizes, writeLeft, readLeft, coded, one, two, three, left};
 ghost use Rattle.masuvelior.specs.Length.{lengthResult};
 
 // The check on opening.

@@ -1,32 +1,11 @@
 // Conjunctions of the terms in a slice, checked and of an archive opened before.
-use crate::give;
-use conjunction::Terms;
+use ffi::give;
+use ffi::terms_of;
 ghost use mathlib.Core.Path.{_≡_};
 ghost use lib.ListN.{length};
 ghost use Rattle.model.specs.Queries.{conjunctionResult};
 ghost use Rattle.archive.specs.Layout.{IsArchive};
-ghost use Rattle.masuvelior.specs.Left.{pairsLeft, one, left};
-ghost use Rattle.masuvelior.specs.Chosen.{Chosen};
-
-// The chosen terms as the question holds them. Nine stand for more than eight, which are refused.
-fn terms_of(chosen: &[u32]) -> Terms
-    ensures { λ q. ⌜ Chosen (now (chosen .entry)) q ⌝ }
-{
-    let mut numbers = [0u32; 8];
-    let size = chosen.len();
-    if 8 < size {
-        return Terms { numbers, size: 9 };
-    }
-    let mut i = 0;
-    while i < size {
-        numbers[i] = chosen[i];
-        i += 1;
-    }
-    Terms {
-        numbers,
-        size: size as u32,
-    }
-}
+ghost use Rattle.ffi.specs.Left.{pairsLeft, one, left};
 
 // The documents under each of the chosen terms.
 #[no_mangle]

@@ -1,9 +1,9 @@
 // Questions of one entry, checked and of an archive opened before.
-use crate::give;
+use ffi::give;
 ghost use mathlib.Core.Path.{_≡_};
 ghost use Rattle.model.specs.Queries.{accessResult, rankResult, selectResult};
 ghost use Rattle.archive.specs.Layout.{IsArchive};
-ghost use Rattle.masuvelior.specs.Left.{given, placed, coded, one};
+ghost use Rattle.ffi.specs.Left.{given, placed, coded, one};
 
 // The entry at a place.
 #[no_mangle]

@@ -3,6 +3,5 @@
 mod archives;
 mod conjunctions;
 mod entries;
-mod give;
 mod ranges;
 mod searches;

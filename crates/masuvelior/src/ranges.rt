@@ -1,9 +1,9 @@
 // Questions of a range, in either form, checked and of an archive opened before; and the rate.
-use crate::give;
+use ffi::give;
 ghost use mathlib.Core.Path.{_≡_};
 ghost use Rattle.model.specs.Queries.{ofEntries, ofTerms, rangeResult, quantileResult, listResult, perMilleResult};
 ghost use Rattle.archive.specs.Layout.{IsArchive};
-ghost use Rattle.masuvelior.specs.Left.{given, ends, pairsLeft, coded, one, two, left};
+ghost use Rattle.ffi.specs.Left.{given, ends, pairsLeft, coded, one, two, left};
 
 // The document of a rank in a range of entries.
 #[no_mangle]

@@ -1,10 +1,10 @@
 // Top-k, checked and of an archive opened before.
-use crate::give;
+use ffi::give;
 ghost use mathlib.Core.Path.{_≡_};
 ghost use Rattle.model.specs.Queries.{ofEntries, ofTerms};
 ghost use Rattle.model.specs.TopK.{greedyResult, probingResult};
 ghost use Rattle.archive.specs.Layout.{IsArchive};
-ghost use Rattle.masuvelior.specs.Left.{ended, searchLeft, one, two, three, left};
+ghost use Rattle.ffi.specs.Left.{ended, searchLeft, one, two, three, left};
 
 // Greedy top-k of a range of entries.
 #[no_mangle]

@@ -9,7 +9,7 @@ use Rattle.model.specs.Format.{Sizes, withinLimits, archiveLength}
 use Rattle.model.proofs.Format.Valid.{limits-of}
 use Rattle.archive.specs.declared.Layout.{Layout}
 use Rattle.archive.specs.Layout.{sizesIn, Fitting}
-use Rattle.masuvelior.specs.Left.{Given, given, one}
+use Rattle.ffi.specs.Left.{Given, given, one}
 use Rattle.masuvelior.proofs.archives.masuvelior_archive_length.Statement.{statement}
 use Rattle.masuvelior.proofs.archives.masuvelior_archive_length.Tie as tie
 

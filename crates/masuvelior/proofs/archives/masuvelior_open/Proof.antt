@@ -6,7 +6,7 @@ use Rattle.model.specs.Format.{Sizes}
 use Rattle.archive.specs.Layout.{sizesIn}
 use Rattle.archive.proofs.Acceptance.{opened-of, refused-of}
 use Rattle.archive.proofs.Opened.{limits}
-use Rattle.masuvelior.specs.Left.{given, sizes}
+use Rattle.ffi.specs.Left.{given, sizes}
 use Rattle.masuvelior.proofs.Narrow.{limits-narrow}
 use Rattle.masuvelior.proofs.archives.masuvelior_open.Statement.{statement}
 use Rattle.masuvelior.proofs.archives.masuvelior_open.Tie as tie

@@ -2,7 +2,7 @@ use borrow.Author.Needs.{needs}
 use mathlib.Core.Path.{ap}
 use mathlib.Core.List.{[], _∷_}
 use Rattle.model.specs.Opening.{ReadResult}
-use Rattle.masuvelior.proofs.Leaving.{read-left}
+use Rattle.ffi.proofs.Leaving.{read-left}
 use Rattle.masuvelior.proofs.Narrow.{read-narrow}
 use Rattle.masuvelior.proofs.archives.masuvelior_read.Statement.{statement}
 use Rattle.masuvelior.proofs.archives.masuvelior_read.Tie as tie

@@ -1,6 +1,6 @@
 use borrow.Author.Needs.{needs}
 use mathlib.Core.List.{[], _∷_}
-use Rattle.masuvelior.proofs.Leaving.{write-left}
+use Rattle.ffi.proofs.Leaving.{write-left}
 use Rattle.masuvelior.proofs.archives.masuvelior_write.Statement.{statement}
 use Rattle.masuvelior.proofs.archives.masuvelior_write.Tie as tie
 

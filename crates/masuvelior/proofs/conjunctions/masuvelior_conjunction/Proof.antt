@@ -1,8 +1,8 @@
 use borrow.Author.Needs.{needs}
 use mathlib.Core.Path.{_∙_}
 use mathlib.Core.List.{[], _∷_}
-use Rattle.masuvelior.proofs.Leaving.{pairs-left}
-use Rattle.masuvelior.proofs.Chosen.{chosen-asked}
+use Rattle.ffi.proofs.Leaving.{pairs-left}
+use Rattle.ffi.proofs.Chosen.{chosen-asked}
 use Rattle.masuvelior.proofs.conjunctions.masuvelior_conjunction.Statement.{statement}
 use Rattle.masuvelior.proofs.conjunctions.masuvelior_conjunction.Tie as tie
 

@@ -1,7 +1,7 @@
 use borrow.Author.Needs.{needs}
 use mathlib.Core.List.{[], _∷_}
-use Rattle.masuvelior.specs.Left.{placed}
-use Rattle.masuvelior.proofs.Leaving.{given-for}
+use Rattle.ffi.specs.Left.{placed}
+use Rattle.ffi.proofs.Leaving.{given-for}
 use Rattle.masuvelior.proofs.entries.masuvelior_opened_select.Statement.{statement}
 use Rattle.masuvelior.proofs.entries.masuvelior_opened_select.Tie as tie
 

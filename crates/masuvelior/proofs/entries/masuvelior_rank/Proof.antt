@@ -1,7 +1,7 @@
 use borrow.Author.Needs.{needs}
 use mathlib.Core.List.{[], _∷_}
-use Rattle.masuvelior.specs.Left.{one}
-use Rattle.masuvelior.proofs.Leaving.{given-for}
+use Rattle.ffi.specs.Left.{one}
+use Rattle.ffi.proofs.Leaving.{given-for}
 use Rattle.masuvelior.proofs.entries.masuvelior_rank.Statement.{statement}
 use Rattle.masuvelior.proofs.entries.masuvelior_rank.Tie as tie
 

@@ -1,6 +1,6 @@
 use borrow.Author.Needs.{needs}
 use mathlib.Core.List.{[], _∷_}
-use Rattle.masuvelior.proofs.Leaving.{pairs-left}
+use Rattle.ffi.proofs.Leaving.{pairs-left}
 use Rattle.masuvelior.proofs.ranges.masuvelior_list_terms.Statement.{statement}
 use Rattle.masuvelior.proofs.ranges.masuvelior_list_terms.Tie as tie
 

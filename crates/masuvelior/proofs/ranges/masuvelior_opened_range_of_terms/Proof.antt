@@ -3,8 +3,8 @@ use mathlib.Core.Path.{_∙_}
 use mathlib.Core.List.{[], _∷_}
 use Rattle.model.specs.Queries.{ofTerms}
 use Rattle.queries.proofs.Results.{range-is}
-use Rattle.masuvelior.specs.Left.{ends}
-use Rattle.masuvelior.proofs.Leaving.{given-for}
+use Rattle.ffi.specs.Left.{ends}
+use Rattle.ffi.proofs.Leaving.{given-for}
 use Rattle.masuvelior.proofs.ranges.masuvelior_opened_range_of_terms.Statement.{statement}
 use Rattle.masuvelior.proofs.ranges.masuvelior_opened_range_of_terms.Tie as tie
 

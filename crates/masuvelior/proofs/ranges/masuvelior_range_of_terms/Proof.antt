@@ -1,7 +1,7 @@
 use borrow.Author.Needs.{needs}
 use mathlib.Core.List.{[], _∷_}
-use Rattle.masuvelior.specs.Left.{ends}
-use Rattle.masuvelior.proofs.Leaving.{given-for}
+use Rattle.ffi.specs.Left.{ends}
+use Rattle.ffi.proofs.Leaving.{given-for}
 use Rattle.masuvelior.proofs.ranges.masuvelior_range_of_terms.Statement.{statement}
 use Rattle.masuvelior.proofs.ranges.masuvelior_range_of_terms.Tie as tie
 

@@ -1,7 +1,7 @@
 use borrow.Author.Needs.{needs}
 use mathlib.Core.List.{[], _∷_}
-use Rattle.masuvelior.specs.Left.{one}
-use Rattle.masuvelior.proofs.Leaving.{search-left}
+use Rattle.ffi.specs.Left.{one}
+use Rattle.ffi.proofs.Leaving.{search-left}
 use Rattle.masuvelior.proofs.searches.masuvelior_probing_terms.Statement.{statement}
 use Rattle.masuvelior.proofs.searches.masuvelior_probing_terms.Tie as tie
 

@@ -16,7 +16,7 @@ use Rattle.model.specs.Format.{Library}
 use Rattle.model.specs.Opening.{opened}
 use Rattle.model.specs.Queries.{Pair, PairsResult, pairsInto, conjunction, conjunctionResult}
 use Rattle.conjunction.specs.declared.Terms.{Terms}
-use Rattle.masuvelior.specs.Chosen.{Chosen}
+use Rattle.ffi.specs.Chosen.{Chosen}
 
 pub copied : (ns cs : List ℕ) (i : ℕ) → i < length ns → i < length cs → take i ns ≡ take i cs
     → take (i + 1) (set ns i (getD cs i 0)) ≡ take (i + 1) cs

@@ -3,9 +3,9 @@ use mathlib.Core.Path.{sym, ap}
 use mathlib.Core.List.{[], _∷_}
 use Rattle.top_k.specs.declared.TopK.{TopK}
 use Rattle.top_k.specs.Asked.{topKOf}
-use Rattle.masuvelior.specs.Left.{given, ended}
-use Rattle.masuvelior.proofs.give.top_k.Statement.{statement}
-use Rattle.masuvelior.proofs.give.top_k.Tie as tie
+use Rattle.ffi.specs.Left.{given, ended}
+use Rattle.ffi.proofs.give.top_k.Statement.{statement}
+use Rattle.ffi.proofs.give.top_k.Tie as tie
 
 enum-known-answer : tie.Need-enum-known-answer
 enum-known-answer c = search needs

@@ -5,9 +5,9 @@ use borrow.Author.Needs.{needs}
 use mathlib.Core.Path.{_≡_, refl, _∙_, subst}
 use lib.ListN.{length, getD, take, set, length-set}
 use lib.Seq.{take-length}
-use Rattle.masuvelior.proofs.Chosen.{copied}
-use Rattle.masuvelior.proofs.conjunctions.terms_of.Statement.{statement}
-use Rattle.masuvelior.proofs.conjunctions.terms_of.Tie as tie
+use Rattle.ffi.proofs.Chosen.{copied}
+use Rattle.ffi.proofs.terms.terms_of.Statement.{statement}
+use Rattle.ffi.proofs.terms.terms_of.Tie as tie
 
 abbrev Inv-loop : tie.InvT-loop
 Inv-loop chosen numbers₀ size i₀ numbers i = (i ≤ length chosen) × (length numbers ≡ 8) × (take i numbers ≡ take i chosen)

@@ -13,8 +13,8 @@ ghost use Rattle.codec.specs.Reading.{readingOf};
 ghost use Rattle.codec.specs.Writing.{writtenOf};
 ghost use Rattle.queries.specs.Answers.{numberOf, placeOf};
 ghost use Rattle.top_k.specs.Asked.{topKOf, probedOf};
-ghost use Rattle.masuvelior.specs.Left as border;
-ghost use Rattle.masuvelior.specs.Left.{given, placed, ended, Narrow, coded, one, two, three};
+ghost use Rattle.ffi.specs.Left as border;
+ghost use Rattle.ffi.specs.Left.{given, placed, ended, Narrow, coded, one, two, three};
 
 // The place that stands for 'none'.
 const NONE: u32 = 4294967295;

@@ -3,9 +3,9 @@ use mathlib.Core.Path.{sym, ap, _∙_, subst}
 use mathlib.Core.List.{[], _∷_}
 use Rattle.codec.specs.declared.Reading.{Reading}
 use Rattle.codec.specs.Reading.{readingOf}
-use Rattle.masuvelior.specs.Left.{given, sizes, Narrow}
-use Rattle.masuvelior.proofs.give.reading.Statement.{statement}
-use Rattle.masuvelior.proofs.give.reading.Tie as tie
+use Rattle.ffi.specs.Left.{given, sizes, Narrow}
+use Rattle.ffi.proofs.give.reading.Statement.{statement}
+use Rattle.ffi.proofs.give.reading.Tie as tie
 
 enum-known-answer : tie.Need-enum-known-answer
 enum-known-answer c = search needs

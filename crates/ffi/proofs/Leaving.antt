@@ -7,7 +7,7 @@ use Rattle.model.specs.Format.{Sizes, WriteResult}
 use Rattle.model.specs.Opening.{ReadResult}
 use Rattle.model.specs.Queries.{PairsResult}
 use Rattle.model.specs.TopK.{SearchResult}
-use Rattle.masuvelior.specs.Left.{Given, Left, given, one, sizes, writeLeft, readLeft, pairsLeft, searchLeft}
+use Rattle.ffi.specs.Left.{Given, Left, given, one, sizes, writeLeft, readLeft, pairsLeft, searchLeft}
 
 pub given-for : {A : Type 0} (values : A → List ℕ) (outs : List ℕ) {o p : Outcome A} {g : Given}
     → g ≡ given values o outs → o ≡ p → g ≡ given values p outs

@@ -3,9 +3,9 @@ use mathlib.Core.Path.{sym, ap}
 use mathlib.Core.List.{[], _∷_}
 use Rattle.codec.specs.declared.Written.{Written}
 use Rattle.codec.specs.Writing.{writtenOf}
-use Rattle.masuvelior.specs.Left.{given, one}
-use Rattle.masuvelior.proofs.give.written.Statement.{statement}
-use Rattle.masuvelior.proofs.give.written.Tie as tie
+use Rattle.ffi.specs.Left.{given, one}
+use Rattle.ffi.proofs.give.written.Statement.{statement}
+use Rattle.ffi.proofs.give.written.Tie as tie
 
 enum-known-answer : tie.Need-enum-known-answer
 enum-known-answer c = search needs

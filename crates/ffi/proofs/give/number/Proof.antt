@@ -3,9 +3,9 @@ use mathlib.Core.Path.{sym, ap}
 use mathlib.Core.List.{[], _∷_}
 use Rattle.queries.specs.declared.Answer.{Answer}
 use Rattle.queries.specs.Answers.{numberOf}
-use Rattle.masuvelior.specs.Left.{given, one}
-use Rattle.masuvelior.proofs.give.number.Statement.{statement}
-use Rattle.masuvelior.proofs.give.number.Tie as tie
+use Rattle.ffi.specs.Left.{given, one}
+use Rattle.ffi.proofs.give.number.Statement.{statement}
+use Rattle.ffi.proofs.give.number.Tie as tie
 
 enum-known-answer : tie.Need-enum-known-answer
 enum-known-answer c = search needs

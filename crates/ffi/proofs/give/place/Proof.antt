@@ -4,9 +4,9 @@ use mathlib.Core.List.{[], _∷_}
 use Rattle.queries.specs.declared.Placed.{Placed}
 use Rattle.queries.specs.declared.Placed.the-variants.{Nothing}
 use Rattle.queries.specs.Answers.{placeOf}
-use Rattle.masuvelior.specs.Left.{given, placed}
-use Rattle.masuvelior.proofs.give.place.Statement.{statement}
-use Rattle.masuvelior.proofs.give.place.Tie as tie
+use Rattle.ffi.specs.Left.{given, placed}
+use Rattle.ffi.proofs.give.place.Statement.{statement}
+use Rattle.ffi.proofs.give.place.Tie as tie
 
 enum-known-answer : tie.Need-enum-known-answer
 enum-known-answer c = search needs

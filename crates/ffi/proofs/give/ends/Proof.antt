@@ -3,9 +3,9 @@ use mathlib.Core.Path.{sym, ap}
 use mathlib.Core.List.{[], _∷_}
 use Rattle.archive.specs.declared.Range.{Range}
 use Rattle.archive.specs.Ranges.{boundsIn}
-use Rattle.masuvelior.specs.Left.{given, ends}
-use Rattle.masuvelior.proofs.give.ends.Statement.{statement}
-use Rattle.masuvelior.proofs.give.ends.Tie as tie
+use Rattle.ffi.specs.Left.{given, ends}
+use Rattle.ffi.proofs.give.ends.Statement.{statement}
+use Rattle.ffi.proofs.give.ends.Tie as tie
 
 enum-known-range : tie.Need-enum-known-range
 enum-known-range c = search needs

@@ -3,9 +3,9 @@ use mathlib.Core.Path.{sym, ap}
 use mathlib.Core.List.{[], _∷_}
 use Rattle.top_k.specs.declared.Probed.{Probed}
 use Rattle.top_k.specs.Asked.{probedOf}
-use Rattle.masuvelior.specs.Left.{given, one}
-use Rattle.masuvelior.proofs.give.probed.Statement.{statement}
-use Rattle.masuvelior.proofs.give.probed.Tie as tie
+use Rattle.ffi.specs.Left.{given, one}
+use Rattle.ffi.proofs.give.probed.Statement.{statement}
+use Rattle.ffi.proofs.give.probed.Tie as tie
 
 enum-known-answer : tie.Need-enum-known-answer
 enum-known-answer c = search needs
