@@ -28,6 +28,8 @@ use Rattle.conjunction.specs.declared.Terms.{Terms}
 use Rattle.conjunction.specs.Conjunction.{Asked, nextCommon, nextIs, noFurther}
 use Rattle.conjunction.proofs.TermSpans.{size-is}
 use Rattle.conjunction.proofs.Commons.{matches, Passed, next-first, next-none}
+use mir.Val.{Fits}
+use mir.Syntax.{w64}
 
 module _ (lib : Library) (ts : List ℕ) where
   -- a document with the sum of its counts
@@ -109,6 +111,22 @@ pub record Turn (l : Layout) (at d c : ℕ) : Type 0 where
   pub on : at ≤ d
   pub lt : d < l .documents
   pub few : c ≤ 524280
+
+-- what a turn of the walk asks for, where there are few documents
+module _ {l : Layout} {at d c : ℕ} (t : Turn l at d c) where
+  pub walk-less : l .documents - (d + 1) < l .documents - at
+  walk-less = let a = t .on in let b = t .lt in omega arith
+
+  pub at-fits : l .documents ≤ 4096 → Fits w64 (d + 1)
+  at-fits few = record { fits = let b = t .lt in omega arith }
+
+  module _ {found : ℕ} (so-far : found ≤ at) (few : l .documents ≤ 4096) where
+    pub found-fits : Fits w64 (found + 1)
+    found-fits = record { fits = let a = t .on in let b = t .lt in omega arith }
+
+    pub pair-room : (before after : List ℕ) → 2 * l .documents ≤ length before → length after ≡ length before
+        → (2 * (found + 1) ≤ length after) × (d < 2 ^ 32) × (c < 2 ^ 32)
+    pair-room before after room same = let a = t .on in let b = t .lt in let m = t .few in (omega arith, omega arith, omega arith)
 
 length-part-le : (a b : ℕ) (xs : List ℕ) → length (part a b xs) ≤ length xs
 length-part-le a b xs = omega (arith, length-take (b - a) (drop a xs), length-drop a xs)
