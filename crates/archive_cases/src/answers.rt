@@ -1,7 +1,7 @@
 // The number of the refusal that an operation answers, 0 where it accepts.
 use archive::Opening;
-use codec::Reading;
-use codec::Written;
+use reader::Reading;
+use writer::Written;
 
 // n entries, all 0 but the first, N, and W terms with so many entries under the first and none under the others.
 pub struct Library {
@@ -26,7 +26,7 @@ fn write(l: Library, target: &mut [u8]) -> u32 {
     }
     entries[0] = l.first;
     lengths[0] = l.under;
-    match codec::write(
+    match writer::write(
         &entries[from..n],
         &lengths[from..terms],
         l.documents,
@@ -88,7 +88,7 @@ pub fn read(l: Library, size: usize, n: usize, terms: usize) -> u32 {
         return 99;
     }
     write(l, &mut bytes);
-    match codec::read(
+    match reader::read(
         &bytes[from..size],
         &mut entries[from..n],
         &mut lengths[from..terms],

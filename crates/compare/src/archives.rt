@@ -17,8 +17,8 @@ use crate::slices::low;
 use crate::slices::minus;
 use crate::slices::put;
 use archive::Opening;
-use codec::Reading;
-use codec::Written;
+use reader::Reading;
+use writer::Written;
 
 fn written(found: Written) -> Outcome {
     match found {
@@ -78,7 +78,7 @@ fn write_into(entries: &[u32], lengths: &[u32], l: Sizes, lent: u32, target: &mu
     if target.len() < to {
         return refused(0);
     }
-    written(codec::write(
+    written(writer::write(
         &entries[from..n],
         &lengths[from..terms],
         l.documents,
@@ -144,7 +144,7 @@ fn read_into(
     if lengths.len() < w {
         return refused(0);
     }
-    was_read(codec::read(archive, &mut entries[from..m], &mut lengths[from..w]))
+    was_read(reader::read(archive, &mut entries[from..m], &mut lengths[from..w]))
 }
 
 fn copy(xs: &[u32], size: u32, ys: &mut [u32]) {

@@ -6,8 +6,8 @@ use Rattle.model.specs.Format.{Sizes, WriteResult}
 use Rattle.model.specs.Opening.{ReadResult}
 use Rattle.model.specs.Queries.{Place, place, none, Bounds, PairsResult}
 use Rattle.model.specs.TopK.{Ended, doneWith, spentWith, SearchResult}
-use Rattle.codec.specs.declared.Reading.{Reading}
-use Rattle.codec.specs.declared.Reading.the-variants.{Read, Refused}
+use Rattle.reader.specs.declared.Reading.{Reading}
+use Rattle.reader.specs.declared.Reading.the-variants.{Read, Refused}
 
 -- the answer and the out-parameters
 pub record Given : Type 0 where

@@ -11,9 +11,9 @@ use Rattle.model.specs.Format.{Sizes}
 use Rattle.model.specs.Opening.{opening, readInto, readResult}
 use Rattle.model.proofs.Format.Valid.{Limits}
 use Rattle.model.proofs.Format.WriteBack.{accepted}
-use Rattle.codec.specs.declared.Reading.{Reading}
-use Rattle.codec.specs.declared.Reading.the-variants.{Read, Refused}
-use Rattle.codec.specs.Reading.{readingOf}
+use Rattle.reader.specs.declared.Reading.{Reading}
+use Rattle.reader.specs.declared.Reading.the-variants.{Read, Refused}
+use Rattle.reader.specs.Reading.{readingOf}
 use Rattle.ffi.specs.Left.{Narrow}
 
 pub limits-narrow : (s : Sizes) → Limits s → (s .entries < 2 ^ 32) × (s .documents < 2 ^ 32) × (s .terms < 2 ^ 32)

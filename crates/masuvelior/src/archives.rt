@@ -66,7 +66,7 @@ pub extern "C" fn masuvelior_write(
         ≡ writeLeft (writeResult (library documents (now (lengths .entry)) (now (entries .entry))) (now (target .entry)))
         (one (now (length .entry))) ⌝ }
 {
-    let answer = codec::write(entries, lengths, documents, target);
+    let answer = writer::write(entries, lengths, documents, target);
     give::written(answer, length)
 }
 
@@ -84,7 +84,7 @@ pub extern "C" fn masuvelior_read(
         ≡ readLeft (readResult (now (archive .entry)) (now (entries .entry)) (now (lengths .entry)))
         (three (now (n .entry)) (now (documents .entry)) (now (terms .entry))) ⌝ }
 {
-    let answer = codec::read(archive, entries, lengths);
+    let answer = reader::read(archive, entries, lengths);
     give::reading(answer, n, documents, terms)
 }
 
@@ -103,6 +103,6 @@ pub extern "C" fn masuvelior_opened_read(
         (three (now (n .entry)) (now (documents .entry)) (now (terms .entry))) ⌝ }
 {
     let l = archive::layout_in(archive);
-    let answer = codec::read_opened(archive, l, entries, lengths);
+    let answer = reader::read_opened(archive, l, entries, lengths);
     give::reading(answer, n, documents, terms)
 }

@@ -37,7 +37,7 @@ pub fn put_archive(input: &mut [u8], entries: &[u32], lengths: &[u32], documents
     if input.len() < start {
         return;
     }
-    codec::write(entries, lengths, documents, &mut input[start..]);
+    writer::write(entries, lengths, documents, &mut input[start..]);
 }
 
 // The input holds an archive, and a question of zeros. Byte k is changed by a mask, and so many bytes are asked.

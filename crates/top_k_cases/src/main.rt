@@ -146,7 +146,7 @@ fn small_cases() {
     let mut small = [0u8; 74];
     let from = 0;
     let cut = 73;
-    codec::write(&[3, 1, 0, 3, 2, 1, 3, 0], &[3, 0, 5], 4, &mut small);
+    writer::write(&[3, 1, 0, 3, 2, 1, 3, 0], &[3, 0, 5], 4, &mut small);
     greedy_cases(&small);
     probing_cases(&small);
     refused_cases(&small);
@@ -164,7 +164,7 @@ fn small_cases() {
 
 fn main() {
     let mut lone = [0u8; 48];
-    codec::write(&[0, 0, 0], &[3], 1, &mut lone);
+    writer::write(&[0, 0, 0], &[3], 1, &mut lone);
     small_cases();
     lone_cases(&lone);
 }

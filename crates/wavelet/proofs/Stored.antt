@@ -1,7 +1,7 @@
 -- What is known of levels that are stored: where their rows end, and that their bits are the rows of their entries.
-use Prim.Native.Nat.{ℕ, suc, _+_, _*_, _^_, _≤_, _<_}
+use Prim.Native.Nat.{ℕ, _+_, _*_, _^_, _≤_, _<_}
 use native.Mathlib.Omega.{arith}
-use native.Mathlib.Nat.{suc-mul, mul-le-mul-right, mul-le-mul}
+use native.Mathlib.Nat.{mul-le-mul}
 use mathlib.Core.Path.{_≡_}
 use mathlib.Core.List.{List}
 use lib.ListN.{length, drop, length-drop}
@@ -16,20 +16,14 @@ use Rattle.model.proofs.Wavelet.Rows.{RowsOf}
 use Rattle.model.proofs.Wavelet.Decode.{decoded}
 use Rattle.wavelet.specs.declared.Levels.{Levels}
 use Rattle.wavelet.specs.Levels.{samplesIn, rowIn, entriesIn, levelOf, Stored}
-
--- the end of chunk j of h chunks of w bytes
-chunk-end : (w h j : ℕ) → j < h → j * w + w ≤ h * w
-chunk-end w h j l =
-    let e = suc-mul j w in
-    let m : suc j * w ≤ h * w = mul-le-mul-right w l in
-    omega arith
+use Rattle.model.proofs.Sums.{chunk-end}
 
 module _ (bytes : List ℕ) (t : Levels) (s : Stored bytes t) (j : ℕ) (l : j < t .height) where
   pub samples-end : t .samples + j * (4 * sampleCount (t .entries)) + 4 * sampleCount (t .entries) ≤ length bytes
-  samples-end = omega (arith, chunk-end (4 * sampleCount (t .entries)) (t .height) j l, s .samples-fit)
+  samples-end = omega (arith, chunk-end (4 * sampleCount (t .entries)) j (t .height) l, s .samples-fit)
 
   pub row-end : t .rows + j * rowBytes (t .entries) + rowBytes (t .entries) ≤ length bytes
-  row-end = omega (arith, chunk-end (rowBytes (t .entries)) (t .height) j l, s .rows-fit)
+  row-end = omega (arith, chunk-end (rowBytes (t .entries)) j (t .height) l, s .rows-fit)
 
   -- products of the code
   pub samples-before : j * (4 * sampleCount (t .entries)) ≤ 12 * 512

@@ -1,7 +1,6 @@
 -- Writing what was read: what an accepted archive holds is a library whose archive has the same bytes.
 use Prim.Native.Nat.{ℕ, zero, suc, _+_, _*_, _≤_, _<_}
 use native.Mathlib.Omega.{arith}
-use native.Mathlib.Nat.{suc-mul, mul-le-mul-right}
 use mathlib.Core.Path.{_≡_, refl, sym, ap, ap₂, _∙_, subst}
 use mathlib.Core.List.{List, [], _∷_, _++_, map, append-assoc}
 use mathlib.Core.Bool.{true, not}
@@ -27,6 +26,7 @@ use Rattle.model.proofs.Wavelet.Rows.{RowsOf}
 use Rattle.model.proofs.Wavelet.Decode.{decoded}
 use Rattle.model.proofs.Format.Valid.{Limits, Valid, limits-of, within-any, refuse-answered, archive-valid}
 use Rattle.model.proofs.Format.Layout.{encode-parts}
+use Rattle.model.proofs.Sums.{chunk-end}
 
 -- ---- what acceptance says
 
@@ -94,9 +94,7 @@ small-part w k bytes small i = small-take w (drop k bytes) (λ i. rw (getD-drop 
 -- chunk j of h, from place k on, lies in the bytes
 chunk-fits : (w k h j : ℕ) (bytes : List ℕ) → k + h * w ≤ length bytes → j < h → length (take w (drop (k + j * w) bytes)) ≡ w
 chunk-fits w k h j bytes fits l =
-    let more : suc j * w ≤ h * w = mul-le-mul-right w l in
-    let e = suc-mul j w in
-    length-take-le w (drop (k + j * w) bytes) (rw (length-drop (k + j * w) bytes) (omega arith))
+    length-take-le w (drop (k + j * w) bytes) (rw (length-drop (k + j * w) bytes) (omega (arith, chunk-end w j h l)))
 
 bits-within : (n : ℕ) (row : List ℕ) → Within 2 (bitsOf n row)
 bits-within n row = within-of 2 (bitsOf n row) (λ i l. rw (getD-bitsOf n row i (rw (length-bitsOf n row) at l)) (bitAt-lt row i))

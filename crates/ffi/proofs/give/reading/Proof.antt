@@ -1,8 +1,8 @@
 use borrow.Author.Needs.{needs}
 use mathlib.Core.Path.{sym, ap, _∙_, subst}
 use mathlib.Core.List.{[], _∷_}
-use Rattle.codec.specs.declared.Reading.{Reading}
-use Rattle.codec.specs.Reading.{readingOf}
+use Rattle.reader.specs.declared.Reading.{Reading}
+use Rattle.reader.specs.Reading.{readingOf}
 use Rattle.ffi.specs.Left.{given, sizes, Narrow}
 use Rattle.ffi.proofs.give.reading.Statement.{statement}
 use Rattle.ffi.proofs.give.reading.Tie as tie

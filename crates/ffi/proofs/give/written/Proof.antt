@@ -1,8 +1,8 @@
 use borrow.Author.Needs.{needs}
 use mathlib.Core.Path.{sym, ap}
 use mathlib.Core.List.{[], _∷_}
-use Rattle.codec.specs.declared.Written.{Written}
-use Rattle.codec.specs.Writing.{writtenOf}
+use Rattle.writer.specs.declared.Written.{Written}
+use Rattle.writer.specs.Writing.{writtenOf}
 use Rattle.ffi.specs.Left.{given, one}
 use Rattle.ffi.proofs.give.written.Statement.{statement}
 use Rattle.ffi.proofs.give.written.Tie as tie

@@ -1,4 +1,0 @@
--- What the contracts of codec cite, beside the definitions of model and archive.
-pub mod Keys
-pub mod Writing
-pub mod Reading

@@ -1,0 +1,3 @@
+-- Laws of counters.
+pub mod Zeros
+pub mod Laws

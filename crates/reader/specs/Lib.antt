@@ -1,0 +1,2 @@
+-- What the contracts of reader cite, beside the definitions of model and archive.
+pub mod Reading
