@@ -1,12 +1,11 @@
 -- What the contracts of the code cite beside the definitions of rows: counts below a place, what a row with samples is, what the stores write.
 use mathlib.Core.Path.{_≡_}
-use mathlib.Core.Bool.{Bool, true, false, cond}
+use mathlib.Core.Bool.{Bool, true, false}
 use mathlib.Core.List.{List, _++_}
 use Prim.Native.Nat.{ℕ, zero, suc, _+_, _-_, _*_, _/_, _%_, _^_, _≤_, _<_}
-use lib.Dec.{ltb}
 use lib.ListN.{length, getD, set, take, drop}
 use Rattle.bit_rows.specs.Bits.{bitsOf, rowBytes, sampleCount, samplesRight, littleEndian, numberAt}
-use Rattle.bit_rows.specs.Sequences.{occurrences}
+use Rattle.bit_rows.specs.Sequences.{occurrences, Place, place, none}
 use Rattle.bit_rows.specs.declared.Found.{Found}
 use Rattle.bit_rows.specs.declared.Found.the-variants.{At, Nothing}
 
@@ -58,9 +57,15 @@ pub record InWord (v : ℕ) (row : List ℕ) (k j many bits place before : ℕ) 
   pub counted : countBelow v row place ≡ before
   pub fewer : before < j
 
--- where n bits are searched: a place among them, or nothing
-abbrev pub foundAt : ℕ → ℕ → Found
-foundAt n p = cond (ltb p n) (At p) Nothing
+-- each case of a search's answer: the place, or 'none'
+abbrev pub foundOf : Found → Place
+foundOf (At p) = place p
+foundOf Nothing = none
+
+-- the place that a search among n bits answers; n where it found nothing
+abbrev pub placeOr : Found → ℕ → ℕ
+placeOr (At p) n = p
+placeOr Nothing n = n
 
 -- a row whose bit i was 0, with bit b stored there
 abbrev pub withBit : List ℕ → ℕ → ℕ → List ℕ

@@ -3,7 +3,7 @@ use Prim.Native.Nat.{ℕ, zero, suc, _+_, _-_}
 use mathlib.Core.List.{List, [], _∷_}
 use mathlib.Core.Bool.{Bool, true, false, cond, _&&_}
 use lib.ListN.{take}
-use lib.Dec.{eqb}
+use lib.Dec.{eqb, ltb}
 
 -- a test as a number
 abbrev pub bit : Bool → ℕ
@@ -44,3 +44,12 @@ select v [] j = 0
 select v (x ∷ xs) j =
     let later = suc (select v xs (j - bit (eqb v x))) in
     cond (eqb v x && eqb j 1) 0 later
+
+-- a place, or 'none'
+pub data Place : Type 0 where
+  place : ℕ → Place
+  none : Place
+
+-- a place among n; one past the end is none
+abbrev pub placeBelow : ℕ → ℕ → Place
+placeBelow n p = cond (ltb p n) (place p) none

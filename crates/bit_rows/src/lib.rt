@@ -17,6 +17,7 @@ pub use numbers::number;
 pub use numbers::put_number;
 pub use rank::rank0;
 pub use rank::rank1;
+pub use select::place_or;
 pub use select::select0;
 pub use select::select0_near;
 pub use select::select1;

@@ -7,9 +7,9 @@ use crate::numbers::number;
 use crate::numbers::word;
 ghost use mathlib.Core.Path.{_≡_};
 ghost use Prim.Native.Nat.{_+_, _*_, _≤_, _<_};
-ghost use Rattle.bit_rows.specs.Sequences.{rank, select};
+ghost use Rattle.bit_rows.specs.Sequences.{rank, select, placeBelow};
 ghost use Rattle.bit_rows.specs.Bits.{bitsOf, rowBytes, sampleCount};
-ghost use Rattle.bit_rows.specs.Rows.{countBelow, ofKind, foundAt, Sampled, Reached, InWord, timesOf};
+ghost use Rattle.bit_rows.specs.Rows.{countBelow, ofKind, foundOf, placeOr, Sampled, Reached, InWord, timesOf};
 
 // A byte of a row, and how many of the bits before it are of the wanted kind.
 pub struct Scan {
@@ -144,7 +144,7 @@ fn narrow(row: &[u8], k: usize, v: u8, from: Left, w: usize, j: usize) -> Left
 // The j-th bit that is v among the first n, from a place on.
 fn find_bit(row: &[u8], n: usize, v: u8, place: usize, before: usize, j: usize) -> Found
     requires { ⌜ Reached n v (now row) j place before ⌝ }
-    ensures { λ r. ⌜ r ≡ foundAt n (select v (bitsOf n (now (row .entry))) j) ⌝ }
+    ensures { λ r. ⌜ foundOf r ≡ placeBelow n (select v (bitsOf n (now (row .entry))) j) ⌝ }
 {
     let mut i = place;
     let mut count = before;
@@ -164,7 +164,7 @@ fn find_bit(row: &[u8], n: usize, v: u8, place: usize, before: usize, j: usize) 
 fn find_in_word(row: &[u8], n: usize, v: u8, k: usize, before: usize, j: usize) -> Found
     requires { ⌜ Reached n v (now row) j (8 * k) before ⌝ }
     requires { ⌜ k + 8 ≤ rowBytes n ⌝ }
-    ensures { λ r. ⌜ r ≡ foundAt n (select v (bitsOf n (now (row .entry))) j) ⌝ }
+    ensures { λ r. ⌜ foundOf r ≡ placeBelow n (select v (bitsOf n (now (row .entry))) j) ⌝ }
 {
     let whole = Left {
         bits: word(row, k),
@@ -192,7 +192,7 @@ fn select_blocks(
 ) -> Found
     requires { ⌜ Sampled n (now samples) (now row) ⌝ }
     requires { ⌜ (v < 2) × (0 < many) × (from + many ≤ sampleCount n) × (countBelow v (now row) (512 * from) < j) ⌝ }
-    ensures { λ r. ⌜ r ≡ foundAt n (select v (bitsOf n (now (row .entry))) j) ⌝ }
+    ensures { λ r. ⌜ foundOf r ≡ placeBelow n (select v (bitsOf n (now (row .entry))) j) ⌝ }
 {
     let t = block_of(samples, row, n, v, from, many, j);
     let before = sampled(samples, row, n, v, t);
@@ -218,7 +218,7 @@ fn select_blocks(
 fn select_kind(samples: &[u8], row: &[u8], n: usize, v: u8, j: usize) -> Found
     requires { ⌜ Sampled n (now samples) (now row) ⌝ }
     requires { ⌜ v < 2 ⌝ }
-    ensures { λ r. ⌜ r ≡ foundAt n (select v (bitsOf n (now (row .entry))) j) ⌝ }
+    ensures { λ r. ⌜ foundOf r ≡ placeBelow n (select v (bitsOf n (now (row .entry))) j) ⌝ }
 {
     if j == 0 {
         return Found::Nothing;
@@ -233,16 +233,26 @@ fn select_kind(samples: &[u8], row: &[u8], n: usize, v: u8, j: usize) -> Found
 fn select_near(samples: &[u8], row: &[u8], n: usize, v: u8, a: usize, e: usize, j: usize) -> Found
     requires { ⌜ Sampled n (now samples) (now row) ⌝ }
     requires { ⌜ (v < 2) × (a < e) × (e ≤ n) × (rank v (bitsOf n (now row)) a < j) ⌝ }
-    ensures { λ r. ⌜ r ≡ foundAt n (select v (bitsOf n (now (row .entry))) j) ⌝ }
+    ensures { λ r. ⌜ foundOf r ≡ placeBelow n (select v (bitsOf n (now (row .entry))) j) ⌝ }
 {
     let from = a / 512;
     select_blocks(samples, row, n, v, from, (e + 511) / 512 - from, j)
 }
 
+// The place that a search among n bits answers; n where it found nothing.
+pub fn place_or(f: Found, n: usize) -> usize
+    ensures { λ r. ⌜ r ≡ placeOr f n ⌝ }
+{
+    match f {
+        Found::At(p) => p,
+        Found::Nothing => n,
+    }
+}
+
 // The place of the j-th one, counted from 1.
 pub fn select1(samples: &[u8], row: &[u8], n: usize, j: usize) -> Found
     requires { ⌜ Sampled n (now samples) (now row) ⌝ }
-    ensures { λ r. ⌜ r ≡ foundAt n (select 1 (bitsOf n (now (row .entry))) j) ⌝ }
+    ensures { λ r. ⌜ foundOf r ≡ placeBelow n (select 1 (bitsOf n (now (row .entry))) j) ⌝ }
 {
     select_kind(samples, row, n, 1, j)
 }
@@ -250,7 +260,7 @@ pub fn select1(samples: &[u8], row: &[u8], n: usize, j: usize) -> Found
 // The place of the j-th zero, counted from 1.
 pub fn select0(samples: &[u8], row: &[u8], n: usize, j: usize) -> Found
     requires { ⌜ Sampled n (now samples) (now row) ⌝ }
-    ensures { λ r. ⌜ r ≡ foundAt n (select 0 (bitsOf n (now (row .entry))) j) ⌝ }
+    ensures { λ r. ⌜ foundOf r ≡ placeBelow n (select 0 (bitsOf n (now (row .entry))) j) ⌝ }
 {
     select_kind(samples, row, n, 0, j)
 }
@@ -259,7 +269,7 @@ pub fn select0(samples: &[u8], row: &[u8], n: usize, j: usize) -> Found
 pub fn select1_near(samples: &[u8], row: &[u8], n: usize, a: usize, e: usize, j: usize) -> Found
     requires { ⌜ Sampled n (now samples) (now row) ⌝ }
     requires { ⌜ (a < e) × (e ≤ n) × (rank 1 (bitsOf n (now row)) a < j) ⌝ }
-    ensures { λ r. ⌜ r ≡ foundAt n (select 1 (bitsOf n (now (row .entry))) j) ⌝ }
+    ensures { λ r. ⌜ foundOf r ≡ placeBelow n (select 1 (bitsOf n (now (row .entry))) j) ⌝ }
 {
     select_near(samples, row, n, 1, a, e, j)
 }
@@ -267,7 +277,7 @@ pub fn select1_near(samples: &[u8], row: &[u8], n: usize, a: usize, e: usize, j:
 pub fn select0_near(samples: &[u8], row: &[u8], n: usize, a: usize, e: usize, j: usize) -> Found
     requires { ⌜ Sampled n (now samples) (now row) ⌝ }
     requires { ⌜ (a < e) × (e ≤ n) × (rank 0 (bitsOf n (now row)) a < j) ⌝ }
-    ensures { λ r. ⌜ r ≡ foundAt n (select 0 (bitsOf n (now (row .entry))) j) ⌝ }
+    ensures { λ r. ⌜ foundOf r ≡ placeBelow n (select 0 (bitsOf n (now (row .entry))) j) ⌝ }
 {
     select_near(samples, row, n, 0, a, e, j)
 }

@@ -1,22 +1,21 @@
 // The writer, the check on opening and the reader, beside the plain bytes and the list.
-use crate::bytes::same_bytes;
-use crate::outcome::NUMBER;
-use crate::outcome::Outcome;
-use crate::outcome::Sizes;
-use crate::outcome::compare;
-use crate::outcome::number;
-use crate::outcome::question_of;
-use crate::outcome::refused;
-use crate::plain_archive::length_of;
-use crate::plain_archive::plain_archive;
+use crate::differences::compare;
 use crate::random::draw;
 use crate::random::room;
-use crate::slices::at;
-use crate::slices::both_same;
-use crate::slices::low;
-use crate::slices::minus;
-use crate::slices::put;
 use archive::Opening;
+use plain::archive::length_of;
+use plain::bytes::same_bytes;
+use plain::outcome::NUMBER;
+use plain::outcome::Outcome;
+use plain::outcome::Sizes;
+use plain::outcome::number;
+use plain::outcome::question_of;
+use plain::outcome::refused;
+use plain::slices::at;
+use plain::slices::both_same;
+use plain::slices::low;
+use plain::slices::minus;
+use plain::slices::put;
 use reader::Reading;
 use writer::Written;
 
@@ -97,7 +96,7 @@ pub fn write(
     made: &mut [u32; 64],
 ) {
     let mut plain = [junk; 137400];
-    let expected = plain_archive(entries, lengths, l, lent, &mut plain);
+    let expected = plain::archive::write(entries, lengths, l, lent, &mut plain);
     let found = write_into(entries, lengths, l, lent, target);
     compare(
         question_of(0, lent, 0, 0),

@@ -1,9 +1,9 @@
 // The cases of document 01's table that are not proved: one line each, what is found and what is expected.
-use crate::outcome::decimal;
-use crate::outcome::text;
-use crate::slices::low;
+use crate::differences::decimal;
+use crate::differences::text;
 use archive::Opening;
 use conjunction::Terms;
+use plain::slices::low;
 use queries::Answer;
 use top_k::TopK;
 

@@ -2,17 +2,17 @@
 use crate::archives;
 use crate::lists;
 use crate::numbers;
-use crate::outcome::Sizes;
-use crate::plain_archive::length_of;
 use crate::random::below;
 use crate::random::draw;
 use crate::random::once_in;
 use crate::searches;
 use crate::shapes::Shape;
 use crate::shapes::drawn;
-use crate::slices::count_at;
-use crate::slices::plus;
-use crate::slices::put;
+use plain::archive::length_of;
+use plain::outcome::Sizes;
+use plain::slices::count_at;
+use plain::slices::plus;
+use plain::slices::put;
 
 fn fill_entries(how: u32, n: u32, documents: u32, seed: u32, entries: &mut [u32]) {
     let mut i = 0;

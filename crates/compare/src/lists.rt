@@ -1,22 +1,22 @@
 // Questions for pairs: listings, and conjunctions of one to eight terms.
+use crate::differences::compare;
 use crate::numbers::answered;
-use crate::outcome::Outcome;
-use crate::outcome::Question;
-use crate::outcome::Sizes;
-use crate::outcome::compare;
-use crate::outcome::refused;
-use crate::plain_pairs;
 use crate::random::below;
 use crate::random::draw;
 use crate::random::near;
 use crate::random::once_in;
 use crate::random::room;
 use crate::random::two_ends;
-use crate::slices::least;
-use crate::slices::minus;
-use crate::slices::plus;
-use crate::slices::same;
 use conjunction::Terms;
+use plain::outcome::Outcome;
+use plain::outcome::Question;
+use plain::outcome::Sizes;
+use plain::outcome::refused;
+use plain::pairs;
+use plain::slices::least;
+use plain::slices::minus;
+use plain::slices::plus;
+use plain::slices::same;
 
 // Lists with the first so many numbers of the answers lent.
 fn list_into(archive: &[u8], q: Question, answers: &mut [u32]) -> Outcome {
@@ -60,7 +60,7 @@ pub fn list(
     let mut plain = [junk; 8200];
     let q = drawn(kind, l, draw(seed, 2));
     let found = list_into(archive, q, &mut answers);
-    let expected = plain_pairs::list(entries, lengths, l, q, &mut plain);
+    let expected = pairs::list(entries, lengths, l, q, &mut plain);
     compare(q, found, expected, same(&answers, &plain), made);
 }
 
@@ -130,7 +130,8 @@ pub fn conjunction(
     let t = drawn_terms(l, draw(seed, 2));
     let lent = room(draw(seed, 3), plus(l.documents, l.documents));
     let found = conjunction_into(archive, t, lent, &mut answers);
-    let expected = plain_pairs::conjunction(entries, lengths, l, t, lent, &mut plain);
+    let numbers = t.numbers;
+    let expected = pairs::conjunction(entries, lengths, l, &numbers, t.size, lent, &mut plain);
     compare(
         named(t, lent),
         found,

@@ -1,23 +1,17 @@
 // Document 01's cases that are not proved; then many random libraries through the code, beside a plain count over the list.
 mod archives;
-mod bytes;
 mod cases;
+mod differences;
 mod library;
 mod lists;
 mod numbers;
-mod outcome;
-mod plain;
-mod plain_archive;
-mod plain_pairs;
-mod plain_search;
 mod random;
 mod searches;
 mod shapes;
-mod slices;
 
 use cases::cases;
+use differences::totals;
 use library::library;
-use outcome::totals;
 use random::draw;
 use shapes::shape_of;
 

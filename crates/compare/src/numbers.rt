@@ -1,23 +1,22 @@
 // Questions for a number: access, rank, select, quantile, the range of terms, the count per mille.
-use crate::outcome::NOTHING;
-use crate::outcome::NUMBER;
-use crate::outcome::Outcome;
-use crate::outcome::Question;
-use crate::outcome::Sizes;
-use crate::outcome::compare;
-use crate::outcome::number;
-use crate::outcome::outcome_of;
-use crate::outcome::question_of;
-use crate::outcome::refused;
-use crate::plain;
+use crate::differences::compare;
 use crate::random::below;
 use crate::random::draw;
 use crate::random::near;
 use crate::random::two_ends;
-use crate::slices::at;
-use crate::slices::minus;
-use crate::slices::plus;
 use archive::Range;
+use plain::outcome::NOTHING;
+use plain::outcome::NUMBER;
+use plain::outcome::Outcome;
+use plain::outcome::Question;
+use plain::outcome::Sizes;
+use plain::outcome::number;
+use plain::outcome::outcome_of;
+use plain::outcome::question_of;
+use plain::outcome::refused;
+use plain::slices::at;
+use plain::slices::minus;
+use plain::slices::plus;
 use queries::Answer;
 use queries::Placed;
 
@@ -137,7 +136,7 @@ pub fn ask(
     compare(
         q,
         asked(archive, q),
-        plain::answer(entries, lengths, l, q),
+        plain::numbers::answer(entries, lengths, l, q),
         true,
         made,
     );

@@ -1,23 +1,23 @@
 // Top-k questions: the greedy search and probing, over entries and over terms.
-use crate::outcome::DONE;
-use crate::outcome::Outcome;
-use crate::outcome::Question;
-use crate::outcome::SPENT;
-use crate::outcome::Sizes;
-use crate::outcome::compare;
-use crate::outcome::number;
-use crate::outcome::outcome_of;
-use crate::outcome::refused;
-use crate::plain_search;
+use crate::differences::compare;
 use crate::random::below;
 use crate::random::draw;
 use crate::random::near;
 use crate::random::room;
 use crate::random::two_ends;
-use crate::slices::both_same;
-use crate::slices::least;
-use crate::slices::minus;
-use crate::slices::up;
+use plain::outcome::DONE;
+use plain::outcome::Outcome;
+use plain::outcome::Question;
+use plain::outcome::SPENT;
+use plain::outcome::Sizes;
+use plain::outcome::number;
+use plain::outcome::outcome_of;
+use plain::outcome::refused;
+use plain::search;
+use plain::slices::both_same;
+use plain::slices::least;
+use plain::slices::minus;
+use plain::slices::up;
 use top_k::Probed;
 use top_k::TopK;
 
@@ -99,7 +99,7 @@ fn ask(
     let mut work = [junk; 16400];
     let mut plain_work = [junk; 16400];
     let found = search_into(archive, q, &mut answers, &mut work);
-    let expected = plain_search::search(entries, lengths, l, q, &mut plain, &mut plain_work);
+    let expected = search::search(entries, lengths, l, q, &mut plain, &mut plain_work);
     compare(
         q,
         found,

@@ -10,6 +10,7 @@ use Rattle.model.specs.Lists.{keep, any, part, sorted, overwrite}
 use Rattle.model.specs.Outcome.{Outcome, answered, refused, refuse, andThen}
 use Rattle.model.specs.Format.{Library}
 use Rattle.model.specs.Opening.{opened}
+pub use Rattle.bit_rows.specs.Sequences.{Place, place, none, placeBelow}
 
 -- ---- one entry
 
@@ -23,15 +24,7 @@ rankResult bytes d p =
     andThen (opened bytes)
     (λ lib. refuse 11 (leb (lib .documents) d || ltb (length (lib .entries)) p) (answered (rank d (lib .entries) p)))
 
--- a place, or 'none'
-pub data Place : Type 0 where
-  place : ℕ → Place
-  none : Place
-
-abbrev pub placeBelow : ℕ → ℕ → Place
-placeBelow n p = cond (ltb p n) (place p) none
-
--- place of the j-th entry of a document, j from 1
+-- place of the j-th entry of a document, j from 1, or 'none'
 abbrev pub selectResult : List ℕ → ℕ → ℕ → Outcome Place
 selectResult bytes d j =
     andThen (opened bytes)

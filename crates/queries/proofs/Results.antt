@@ -8,14 +8,13 @@ use lib.ListN.{length, getD}
 use lib.Dec.{leb, ltb, eqb}
 use borrow.Author.Tests.{ltb-true, lt-ltb, le-ltb, le-leb, lt-leb, eq-eqb, ne-eqb}
 use Rattle.bit_rows.specs.declared.Found.{Found}
-use Rattle.bit_rows.specs.declared.Found.the-variants.{At, Nothing}
 use Rattle.bit_rows.specs.Sequences.{rank, select}
-use Rattle.bit_rows.specs.Rows.{foundAt}
+use Rattle.bit_rows.specs.Rows.{foundOf}
 use Rattle.bit_rows.proofs.Tests.{or-right}
 use Rattle.model.specs.Lists.{Within}
 use Rattle.model.specs.Outcome.{answered, refused}
 use Rattle.model.specs.Opening.{contents}
-use Rattle.model.specs.Queries.{Place, place, none, placeBelow, Range, boundsOf, quantile, accessResult, rankResult, selectResult, rangeResult, quantileResult, listResult}
+use Rattle.model.specs.Queries.{place, none, placeBelow, Range, boundsOf, quantile, accessResult, rankResult, selectResult, rangeResult, quantileResult, listResult}
 use Rattle.model.proofs.Wavelet.Sorted.{quantile-ranked, tally-below-suc}
 use Rattle.queries.proofs.Occurrences.{occurs-lt}
 use Rattle.archive.specs.declared.Layout.{Layout}
@@ -25,21 +24,10 @@ use Rattle.queries.specs.Ranges.{quantileOf, listOf}
 
 -- ---- a place that is found
 
-abbrev pub placeIn : Found → Place
-placeIn (At p) = place p
-placeIn Nothing = none
-
-pub found-place : (n p : ℕ) (f : Found) → f ≡ foundAt n p → placeIn f ≡ placeBelow n p
-found-place n p f e = ap placeIn e ∙ go (ltb p n)
-  where
-    go : (b : Bool) → placeIn (cond b (At p) Nothing) ≡ cond b (place p) none
-    go true = refl
-    go false = refl
-
-pub found-lt : (n p x : ℕ) → At x ≡ foundAt n p → x < n
+pub found-lt : (n p x : ℕ) → place x ≡ placeBelow n p → x < n
 found-lt n p x = go (ltb p n) refl
   where
-    go : (b : Bool) → ltb p n ≡ b → At x ≡ cond b (At p) Nothing → x < n
+    go : (b : Bool) → ltb p n ≡ b → place x ≡ cond b (place p) none → x < n
     go true t e = let q : x ≡ p = cc in omega (arith, ltb-true p n t)
     go false t e = absurd (let z : _≡_ {A = ℕ} 0 1 = cc in omega arith)
 
@@ -90,10 +78,10 @@ module _ (bytes : List ℕ) (l : Layout) (o : Opened bytes l) where
   pub select-zeroth : (d j : ℕ) → j ≡ 0 → refused 11 ≡ selectResult bytes d j
   select-zeroth d j h = rw (o .accepted, or-right (leb (contents bytes .documents) d) (eqb j 0) (eq-eqb j 0 h))
 
-  pub select-is : (d j : ℕ) (f : Found) → d < l .documents → (j ≡ 0 → ⊥) → f ≡ foundAt n (select d xs j) → answered (placeIn f) ≡ selectResult bytes d j
+  pub select-is : (d j : ℕ) (f : Found) → d < l .documents → (j ≡ 0 → ⊥) → foundOf f ≡ placeBelow n (select d xs j) → answered (foundOf f) ≡ selectResult bytes d j
   select-is d j f h k e =
       rw (o .accepted, a-document d h, entries-size bytes l o, ne-eqb j 0 k)
-      (ap answered (found-place n (select d xs j) f e))
+      (ap answered e)
 
   -- ---- ranges
 

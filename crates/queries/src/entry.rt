@@ -9,7 +9,7 @@ ghost use mathlib.Core.Path.{_≡_};
 ghost use Prim.Native.Nat.{_≤_, _<_};
 ghost use lib.ListN.{getD};
 ghost use Rattle.bit_rows.specs.Sequences as sequences;
-ghost use Rattle.bit_rows.specs.Rows.{foundAt};
+ghost use Rattle.bit_rows.specs.Rows.{foundOf};
 ghost use Rattle.model.specs.Opening.{contents};
 ghost use Rattle.model.specs.Queries.{accessResult, rankResult, selectResult};
 ghost use Rattle.archive.specs.Layout.{Opened};
@@ -81,7 +81,7 @@ pub fn rank(archive: &[u8], document: u32, place: u32) -> Answer
 pub fn select_in(archive: &[u8], l: Layout, document: usize, j: usize) -> Found
     requires { ⌜ Opened (now archive) l ⌝ }
     requires { ⌜ (document < l .documents) × (0 < j) ⌝ }
-    ensures { λ r. ⌜ r ≡ foundAt (l .levels .entries) (sequences.select document (contents (now (archive .entry)) .entries) j) ⌝ }
+    ensures { λ r. ⌜ foundOf r ≡ sequences.placeBelow (l .levels .entries) (sequences.select document (contents (now (archive .entry)) .entries) j) ⌝ }
 {
     wavelet::select(archive, l.levels, document, j)
 }

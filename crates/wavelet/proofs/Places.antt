@@ -11,29 +11,22 @@ use lib.ListN.{length}
 use lib.Seq.{take-length}
 use lib.Dec.{eqb, ltb}
 use borrow.Author.Tests.{lt-ltb, le-ltb}
-use Rattle.bit_rows.specs.Sequences.{occurrences, rank, select}
-use Rattle.bit_rows.specs.Rows.{foundAt}
+use Rattle.bit_rows.specs.Sequences.{occurrences, rank, select, Place, place, none, placeBelow}
+use Rattle.bit_rows.specs.Rows.{foundOf, placeOr}
 use Rattle.bit_rows.specs.declared.Found.{Found}
-use Rattle.bit_rows.specs.declared.Found.the-variants.{At, Nothing}
 use Rattle.model.specs.Walk.{left, right, rankFrom, selectFrom}
 use Rattle.model.proofs.Wavelet.Counts.{ones-step}
 use Rattle.model.proofs.Wavelet.Rank.{rank-walk}
 use Rattle.model.proofs.Wavelet.Rows.{row-length, row-below}
 use Rattle.bit_rows.proofs.Sequences.{select-le, select-none}
+use Rattle.bit_rows.proofs.Search.{found-place}
 use Rattle.model.proofs.Wavelet.Rows.{rows-of}
 use Rattle.model.proofs.Wavelet.Place.{select-ge, select-placed, zeros-front}
 use Rattle.model.proofs.Wavelet.Select.{select-walk}
 use Rattle.wavelet.specs.declared.Levels.{Levels}
 use Rattle.wavelet.specs.Levels.{entriesIn, levelOf}
-use Rattle.wavelet.specs.Places.{placeOr, upFromHalf, offsetFrom}
+use Rattle.wavelet.specs.Places.{upFromHalf, offsetFrom}
 use Rattle.wavelet.proofs.Stored.{length-entriesIn, within-entriesIn}
-
-pub found-place : (n x : ℕ) → x ≤ n → placeOr (foundAt n x) n ≡ x
-found-place n x l = go (decLe (suc x) n)
-  where
-    go : Dec (x < n) → placeOr (foundAt n x) n ≡ x
-    go (yes m) = rw (lt-ltb x n m)
-    go (no m) = rw (le-ltb x n (omega arith)) (omega arith)
 
 -- the bounds of the half that a bit leads to
 pub picked : (b : Bool) (s m e : ℕ) → s ≤ m → m ≤ e → (s ≤ cond b m s) × (cond b m s ≤ cond b e m) × (cond b e m ≤ e)
@@ -50,9 +43,9 @@ module _ (bytes : List ℕ) (t : Levels) (j : ℕ) (l : j < t .height) where
   select-inside v i = rw level-length at (select-le v (levelOf bytes t j) i)
 
   -- the place that a search answers
-  pub placed : (v i : ℕ) (f : Found) (r : ℕ) → f ≡ foundAt (t .entries) (select v (levelOf bytes t j) i) → r ≡ placeOr f (t .entries)
+  pub placed : (v i : ℕ) (f : Found) (r : ℕ) → foundOf f ≡ placeBelow (t .entries) (select v (levelOf bytes t j) i) → r ≡ placeOr f (t .entries)
       → r ≡ select v (levelOf bytes t j) i
-  placed v i f r p q = q ∙ ap (λ (f : Found). placeOr f (t .entries)) p ∙ found-place (t .entries) (select v (levelOf bytes t j) i) (select-inside v i)
+  placed v i f r p q = q ∙ found-place (t .entries) (select v (levelOf bytes t j) i) f (select-inside v i) p
 
   pub one-after : (s k : ℕ) → s ≤ t .entries → s ≤ select 1 (levelOf bytes t j) (rank 1 (levelOf bytes t j) s + k + 1)
   one-after s k m =
@@ -75,11 +68,11 @@ right-end : (bits : List ℕ) (s e : ℕ) → s ≤ e → right bits s e e ≡ e
 right-end bits s e l = omega (arith, ones-step bits s e l)
 
 -- an offset in a half, carried up into the node
-raise : (ℕ → ℕ) → Found → Found
-raise f (At p) = At (f p)
-raise f Nothing = Nothing
+raise : (ℕ → ℕ) → Place → Place
+raise f (place p) = place (f p)
+raise f none = none
 
-raise-cond : (f : ℕ → ℕ) (b : Bool) (x : ℕ) → raise f (cond b (At x) Nothing) ≡ cond b (At (f x)) Nothing
+raise-cond : (f : ℕ → ℕ) (b : Bool) (x : ℕ) → raise f (cond b (place x) none) ≡ cond b (place (f x)) none
 unfolding raise
 raise-cond f true x = refl
 raise-cond f false x = refl
@@ -92,7 +85,7 @@ module _ (bytes : List ℕ) (t : Levels) (d j s e k : ℕ) where
   rows = levelOf bytes t
 
   -- at the leaf
-  pub offset-end : j ≡ h → foundAt (e - s) k ≡ offsetFrom rows d (h - j) j s e k
+  pub offset-end : j ≡ h → placeBelow (e - s) k ≡ offsetFrom rows d (h - j) j s e k
   offset-end p =
       let z : 0 ≡ h - j = omega arith in
       ap (λ (m : ℕ). offsetFrom rows d m j s e k) z
@@ -134,13 +127,13 @@ module _ (bytes : List ℕ) (t : Levels) (d j s e k : ℕ) where
     offset-next =
         rw (add-one j)
         (raise-cond (upFromHalf (rows j) s bit) (ltb k (rankFrom rows d (h - suc j) (suc j) s' e' e')) (selectFrom rows d (h - suc j) (suc j) s' e' k)
-        ∙ (λ i. cond (ltb k (count-next i)) (At (place-next i)) Nothing))
+        ∙ (λ i. cond (ltb k (count-next i)) (place (place-next i)) none))
 
-    pub offset-none : Nothing ≡ offsetFrom rows d (h - (j + 1)) (j + 1) s' e' k → Nothing ≡ offsetFrom rows d (h - j) j s e k
+    pub offset-none : none ≡ offsetFrom rows d (h - (j + 1)) (j + 1) s' e' k → none ≡ offsetFrom rows d (h - j) j s e k
     unfolding raise
     offset-none f = ap (raise (upFromHalf (rows j) s bit)) f ∙ offset-next
 
-    pub offset-some : (x : ℕ) → At x ≡ offsetFrom rows d (h - (j + 1)) (j + 1) s' e' k → At (upFromHalf (rows j) s bit x) ≡ offsetFrom rows d (h - j) j s e k
+    pub offset-some : (x : ℕ) → place x ≡ offsetFrom rows d (h - (j + 1)) (j + 1) s' e' k → place (upFromHalf (rows j) s bit x) ≡ offsetFrom rows d (h - j) j s e k
     unfolding raise
     offset-some x f = ap (raise (upFromHalf (rows j) s bit)) f ∙ offset-next
 
@@ -159,23 +152,23 @@ module _ (bytes : List ℕ) (t : Levels) (d i : ℕ) (m : d < 2 ^ t .height) (l 
       ∙ rank-walk (rows-of (t .height) xs (within-entriesIn bytes t)) d (length xs) m (omega arith)
       ∙ ap (occurrences d) (take-length xs)
 
-  absent : occurrences d xs < i → Nothing ≡ foundAt n (select d xs i)
+  absent : occurrences d xs < i → none ≡ placeBelow n (select d xs i)
   absent o =
       let e = select-none d xs i o ∙ length-entriesIn bytes t in
       rw (e, le-ltb n n (omega arith))
 
-  present : i ≤ occurrences d xs → At (selectFrom (levelOf bytes t) d (t .height - 0) 0 0 n (i - 1)) ≡ foundAt n (select d xs i)
+  present : i ≤ occurrences d xs → place (selectFrom (levelOf bytes t) d (t .height - 0) 0 0 n (i - 1)) ≡ placeBelow n (select d xs i)
   present o =
       let p = select-placed d xs i l o .inside in
       rw (lt-ltb (select d xs i) n (rw (length-entriesIn bytes t) at p))
-      (ap At
+      (ap place
       ((λ k. selectFrom (levelOf bytes t) d (sub-zero (t .height) k) 0 0 (sym (length-entriesIn bytes t) k) (i - 1))
       ∙ select-walk (rows-of (t .height) xs (within-entriesIn bytes t)) d i l o))
 
-  pub select-root : offsetFrom (levelOf bytes t) d (t .height - 0) 0 0 n (i - 1) ≡ foundAt n (select d xs i)
+  pub select-root : offsetFrom (levelOf bytes t) d (t .height - 0) 0 0 n (i - 1) ≡ placeBelow n (select d xs i)
   select-root = rw all-occurrences (go (decLe i (occurrences d xs)))
     where
       go : Dec (i ≤ occurrences d xs)
-          → cond (ltb (i - 1) (occurrences d xs)) (At (selectFrom (levelOf bytes t) d (t .height - 0) 0 0 n (i - 1))) Nothing ≡ foundAt n (select d xs i)
+          → cond (ltb (i - 1) (occurrences d xs)) (place (selectFrom (levelOf bytes t) d (t .height - 0) 0 0 n (i - 1))) none ≡ placeBelow n (select d xs i)
       go (yes o) = rw (lt-ltb (i - 1) (occurrences d xs) (omega arith)) (present o)
       go (no o) = rw (le-ltb (i - 1) (occurrences d xs) (omega arith)) (absent (omega arith))

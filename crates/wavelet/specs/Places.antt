@@ -3,15 +3,10 @@ use Prim.Native.Nat.{ℕ, _+_, _-_}
 use mathlib.Core.List.{List}
 use mathlib.Core.Bool.{cond}
 use lib.Dec.{eqb, ltb}
-use Rattle.bit_rows.specs.Sequences.{rank, select}
+use Rattle.bit_rows.specs.Sequences.{rank, select, Place, place, none}
 use Rattle.bit_rows.specs.declared.Found.{Found}
 use Rattle.bit_rows.specs.declared.Found.the-variants.{At, Nothing}
 use Rattle.model.specs.Walk.{rankFrom, selectFrom}
-
--- the place that a search among n bits answers; n where it found nothing
-abbrev pub placeOr : Found → ℕ → ℕ
-placeOr (At p) n = p
-placeOr Nothing n = n
 
 -- how many places a search answers
 abbrev pub found : Found → ℕ
@@ -23,5 +18,5 @@ abbrev pub upFromHalf : List ℕ → ℕ → ℕ → ℕ → ℕ
 upFromHalf bits s bit k = cond (eqb bit 1) (select 1 bits (rank 1 bits s + k + 1) - s) (select 0 bits ((s - rank 1 bits s) + k + 1) - s)
 
 -- by m more rows, the next of them row j: how far into the node from s to e the entry v stands that has k like it before it
-abbrev pub offsetFrom : (ℕ → List ℕ) → ℕ → ℕ → ℕ → ℕ → ℕ → ℕ → Found
-offsetFrom rows v m j s e k = cond (ltb k (rankFrom rows v m j s e e)) (At (selectFrom rows v m j s e k)) Nothing
+abbrev pub offsetFrom : (ℕ → List ℕ) → ℕ → ℕ → ℕ → ℕ → ℕ → ℕ → Place
+offsetFrom rows v m j s e k = cond (ltb k (rankFrom rows v m j s e e)) (place (selectFrom rows v m j s e k)) none

@@ -5,24 +5,15 @@ use crate::level::ones_from;
 use crate::level::select_one;
 use crate::level::select_zero;
 use bit_rows::Found;
+use bit_rows::place_or;
 ghost use mathlib.Core.Path.{_≡_};
 ghost use mathlib.Core.Bool.{cond};
 ghost use Prim.Native.Nat.{_+_, _-_, _^_, _≤_, _<_};
 ghost use lib.Dec.{eqb};
 ghost use Rattle.bit_rows.specs.Sequences as sequences;
-ghost use Rattle.bit_rows.specs.Rows.{foundAt};
+ghost use Rattle.bit_rows.specs.Rows.{foundOf, placeOr};
 ghost use Rattle.wavelet.specs.Levels.{Stored, entriesIn, levelOf};
-ghost use Rattle.wavelet.specs.Places.{placeOr, found, upFromHalf, offsetFrom};
-
-// The place that a search among n bits answers; n where it found nothing.
-fn place_or(f: Found, n: usize) -> usize
-    ensures { λ r. ⌜ r ≡ placeOr f n ⌝ }
-{
-    match f {
-        Found::At(p) => p,
-        Found::Nothing => n,
-    }
-}
+ghost use Rattle.wavelet.specs.Places.{found, upFromHalf, offsetFrom};
 
 // The first number where the bit is 1, else the other.
 fn pick(bit: usize, x: usize, y: usize) -> usize
@@ -63,7 +54,7 @@ fn up(
 
 // Place k of a leaf, where it has so many entries.
 fn at_leaf(k: usize, size: usize) -> Found
-    ensures { λ r. ⌜ (r ≡ foundAt size k) × (placeOr r 0 ≤ size) × (found r ≤ size) ⌝ }
+    ensures { λ r. ⌜ (foundOf r ≡ sequences.placeBelow size k) × (placeOr r 0 ≤ size) × (found r ≤ size) ⌝ }
 {
     if k < size {
         Found::At(k)
@@ -84,7 +75,7 @@ fn offset_of(
 ) -> Found
     requires { ⌜ Stored (now bytes) t ⌝ }
     requires { ⌜ (j ≤ t .height) × (start ≤ end) × (end ≤ t .entries) ⌝ }
-    ensures { λ r. ⌜ (r ≡ offsetFrom (levelOf (now (bytes .entry)) t) d (t .height - j) j start end k) × (placeOr r 0 ≤ t .entries) × (start + found r ≤ end) ⌝ }
+    ensures { λ r. ⌜ (foundOf r ≡ offsetFrom (levelOf (now (bytes .entry)) t) d (t .height - j) j start end k) × (placeOr r 0 ≤ t .entries) × (start + found r ≤ end) ⌝ }
 {
     if j == t.height {
         return at_leaf(k, end - start);
@@ -104,7 +95,7 @@ fn offset_of(
 pub fn select(bytes: &[u8], t: Levels, d: usize, i: usize) -> Found
     requires { ⌜ Stored (now bytes) t ⌝ }
     requires { ⌜ (d < 2 ^ t .height) × (0 < i) ⌝ }
-    ensures { λ r. ⌜ r ≡ foundAt (t .entries) (sequences.select d (entriesIn (now (bytes .entry)) t) i) ⌝ }
+    ensures { λ r. ⌜ foundOf r ≡ sequences.placeBelow (t .entries) (sequences.select d (entriesIn (now (bytes .entry)) t) i) ⌝ }
 {
     offset_of(bytes, t, d, 0, 0, t.entries, i - 1)
 }

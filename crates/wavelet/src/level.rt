@@ -4,8 +4,8 @@ use bit_rows::Found;
 ghost use mathlib.Core.Path.{_≡_};
 ghost use Prim.Native.Nat.{_≤_, _<_};
 ghost use lib.ListN.{getD};
-ghost use Rattle.bit_rows.specs.Sequences.{rank, select};
-ghost use Rattle.bit_rows.specs.Rows.{foundAt};
+ghost use Rattle.bit_rows.specs.Sequences.{rank, select, placeBelow};
+ghost use Rattle.bit_rows.specs.Rows.{foundOf};
 ghost use Rattle.wavelet.specs.Levels.{Stored, samplesIn, rowIn, levelOf};
 
 // The samples of level j.
@@ -70,7 +70,7 @@ pub fn ones_from(bytes: &[u8], t: Levels, j: usize, x: usize, c: usize, y: usize
 pub fn select_one(bytes: &[u8], t: Levels, j: usize, a: usize, e: usize, i: usize) -> Found
     requires { ⌜ Stored (now bytes) t ⌝ }
     requires { ⌜ (j < t .height) × (a < e) × (e ≤ t .entries) × (rank 1 (levelOf (now bytes) t j) a < i) ⌝ }
-    ensures { λ r. ⌜ r ≡ foundAt (t .entries) (select 1 (levelOf (now (bytes .entry)) t j) i) ⌝ }
+    ensures { λ r. ⌜ foundOf r ≡ placeBelow (t .entries) (select 1 (levelOf (now (bytes .entry)) t j) i) ⌝ }
 {
     bit_rows::select1_near(
         samples_at(bytes, t, j),
@@ -85,7 +85,7 @@ pub fn select_one(bytes: &[u8], t: Levels, j: usize, a: usize, e: usize, i: usiz
 pub fn select_zero(bytes: &[u8], t: Levels, j: usize, a: usize, e: usize, i: usize) -> Found
     requires { ⌜ Stored (now bytes) t ⌝ }
     requires { ⌜ (j < t .height) × (a < e) × (e ≤ t .entries) × (rank 0 (levelOf (now bytes) t j) a < i) ⌝ }
-    ensures { λ r. ⌜ r ≡ foundAt (t .entries) (select 0 (levelOf (now (bytes .entry)) t j) i) ⌝ }
+    ensures { λ r. ⌜ foundOf r ≡ placeBelow (t .entries) (select 0 (levelOf (now (bytes .entry)) t j) i) ⌝ }
 {
     bit_rows::select0_near(
         samples_at(bytes, t, j),

@@ -3,8 +3,8 @@ use Prim.Native.Nat.{ℕ}
 use native.Mathlib.Omega.{arith}
 use borrow.Author.Needs.{needs}
 use Rattle.bit_rows.specs.Bits.{bitsOf}
-use Rattle.bit_rows.specs.Rows.{countBelow, foundAt}
-use Rattle.bit_rows.specs.Sequences.{select}
+use Rattle.bit_rows.specs.Rows.{countBelow}
+use Rattle.bit_rows.specs.Sequences.{select, placeBelow}
 use Rattle.bit_rows.proofs.Bits.{count-zero}
 use Rattle.bit_rows.proofs.Search.{found-zero, found-none}
 use Rattle.bit_rows.proofs.select.select_kind.Statement.{statement}
@@ -16,7 +16,7 @@ returns c =
     let n = s .args .n in
     let row = s .args .row .now in
     let v = s .args .v in
-    sym (ap (λ (j : ℕ). foundAt n (select v (bitsOf n row) j)) (c .if1 .taken) ∙ found-zero v n row)
+    sym (ap (λ (j : ℕ). placeBelow n (select v (bitsOf n row) j)) (c .if1 .taken) ∙ found-zero v n row)
 
 returns-2 : tie.Need-returns-2
 returns-2 c =

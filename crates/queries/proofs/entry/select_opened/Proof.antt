@@ -4,12 +4,12 @@ use native.Mathlib.Omega.{arith}
 use mathlib.Core.Path.{_≡_, sym, ap, _∙_}
 use Rattle.bit_rows.specs.declared.Found.{Found}
 use Rattle.bit_rows.specs.declared.Found.the-variants.{At, Nothing}
-use Rattle.bit_rows.specs.Sequences.{select}
-use Rattle.bit_rows.specs.Rows.{foundAt}
+use Rattle.bit_rows.specs.Sequences.{select, placeBelow}
+use Rattle.bit_rows.specs.Rows.{foundOf}
 use Rattle.model.specs.Outcome.{answered}
 use Rattle.model.specs.Opening.{contents}
 use Rattle.archive.proofs.Opened.{fitting}
-use Rattle.queries.proofs.Results.{placeIn, found-lt, select-no-document, select-zeroth, select-is}
+use Rattle.queries.proofs.Results.{found-lt, select-no-document, select-zeroth, select-is}
 use Rattle.queries.proofs.entry.select_opened.Statement.{statement}
 use Rattle.queries.proofs.entry.select_opened.Tie as tie
 
@@ -36,10 +36,10 @@ cast-t11 c =
     let s = c .before .before .before .before .before .before .before .before in
     let g = s .args in
     let f : Found = c .before .before .before .select-in .result in
-    let q : f ≡ foundAt (g .l .levels .entries) (select (g .document) (contents (g .archive .now) .entries) (g .j)) = c .before .before .before .select-in .ensures in
+    let q : foundOf f ≡ placeBelow (g .l .levels .entries) (select (g .document) (contents (g .archive .now) .entries) (g .j)) = c .before .before .before .select-in .ensures in
     let x : ℕ = c .before .p .given .0 .0 in
     let e : f ≡ At x = cc in
-    omega (arith, found-lt (g .l .levels .entries) (select (g .document) (contents (g .archive .now) .entries) (g .j)) x (sym e ∙ q), fitting (g .archive .now) (g .l) (s .pre) .entries)
+    omega (arith, found-lt (g .l .levels .entries) (select (g .document) (contents (g .archive .now) .entries) (g .j)) x (sym (ap foundOf e) ∙ q), fitting (g .archive .now) (g .l) (s .pre) .entries)
 
 enum-told : tie.Need-enum-told
 enum-told c = search needs
@@ -49,18 +49,18 @@ returns-3 c =
     let s = c .before .before .before .before .before .before .before .before in
     let g = s .args in
     let f : Found = c .before .before .before .select-in .result in
-    let q : f ≡ foundAt (g .l .levels .entries) (select (g .document) (contents (g .archive .now) .entries) (g .j)) = c .before .before .before .select-in .ensures in
+    let q : foundOf f ≡ placeBelow (g .l .levels .entries) (select (g .document) (contents (g .archive .now) .entries) (g .j)) = c .before .before .before .select-in .ensures in
     let e : f ≡ At (c .before .p .given .0 .0) = cc in
-    ap (λ (f : Found). answered (placeIn f)) (sym e) ∙ select-is (g .archive .now) (g .l) (s .pre) (g .document) (g .j) f (c .before .before .before .before .before .if1 .left) (c .before .before .before .before .if2 .left) q
+    ap (λ (f : Found). answered (foundOf f)) (sym e) ∙ select-is (g .archive .now) (g .l) (s .pre) (g .document) (g .j) f (c .before .before .before .before .before .if1 .left) (c .before .before .before .before .if2 .left) q
 
 returns-4 : tie.Need-returns-4
 returns-4 c =
     let s = c .before .before .before .before .before .before .before in
     let g = s .args in
     let f : Found = c .before .before .select-in .result in
-    let q : f ≡ foundAt (g .l .levels .entries) (select (g .document) (contents (g .archive .now) .entries) (g .j)) = c .before .before .select-in .ensures in
+    let q : foundOf f ≡ placeBelow (g .l .levels .entries) (select (g .document) (contents (g .archive .now) .entries) (g .j)) = c .before .before .select-in .ensures in
     let e : f ≡ Nothing = cc in
-    ap (λ (f : Found). answered (placeIn f)) (sym e) ∙ select-is (g .archive .now) (g .l) (s .pre) (g .document) (g .j) f (c .before .before .before .before .if1 .left) (c .before .before .before .if2 .left) q
+    ap (λ (f : Found). answered (foundOf f)) (sym e) ∙ select-is (g .archive .now) (g .l) (s .pre) (g .document) (g .j) f (c .before .before .before .before .if1 .left) (c .before .before .before .if2 .left) q
 
 pub select-opened-spec : {M : Type 1} → statement M
 select-opened-spec =

@@ -4,6 +4,8 @@ use native.Mathlib.Omega.{arith}
 use mathlib.Core.Path.{_≡_, refl, ap, _∙_}
 use mathlib.Core.List.{List}
 use lib.Dec.{eqb}
+use Rattle.bit_rows.specs.Rows.{foundOf}
+use Rattle.bit_rows.specs.Sequences.{place}
 use Rattle.bit_rows.specs.declared.Found.the-variants.{At, Nothing}
 use Rattle.model.proofs.Wavelet.Counts.{left-le}
 use Rattle.wavelet.specs.Levels.{levelOf}
@@ -131,7 +133,7 @@ offset-of-returns-2 t c =
     let mid : ℕ = g .end - (k .ones-from .result - k .before .ones .result) in
     let e : Nothing ≡ c .before .before .offset-of .result = cc in (
       offset-none (g .bytes .now) (g .t) (g .d) (g .j) (g .start) (g .end) (g .k) (omega arith) l (g .d / 2 ^ (g .t .height - 1 - g .j) % 2) mid refl m
-          (e ∙ c .before .before .offset-of .ensures .0
+          (ap foundOf e ∙ c .before .before .offset-of .ensures .0
           ∙ (λ i. offsetFrom (levelOf (g .bytes .now) (g .t)) (g .d) (g .t .height - (g .j + 1)) (g .j + 1) (c .before .before .before .before .pick .ensures i)
           (c .before .before .before .pick2 .ensures i) (g .k))),
       omega arith,
@@ -167,10 +169,10 @@ offset-of-returns-3 t c =
     let l = s .pre .1 .1 .1 in
     let m = left-is bits (g .start) (g .end) (k .before .ones .result) (k .ones-from .result) l (k .before .ones .ensures .0) (k .ones-from .ensures .0) in
     let mid : ℕ = g .end - (k .ones-from .result - k .before .ones .result) in (
-      ap At (c .up .ensures .0)
+      ap place (c .up .ensures .0)
           ∙ offset-some (g .bytes .now) (g .t) (g .d) (g .j) (g .start) (g .end) (g .k) (omega arith) l (g .d / 2 ^ (g .t .height - 1 - g .j) % 2) mid refl m
           (c .before .before .below .given .0 .0)
-          (offset-of-found t (c .before) ∙ c .before .before .before .before .offset-of .ensures .0
+          (ap foundOf (offset-of-found t (c .before)) ∙ c .before .before .before .before .offset-of .ensures .0
           ∙ (λ i. offsetFrom (levelOf (g .bytes .now) (g .t)) (g .d) (g .t .height - (g .j + 1)) (g .j + 1) (c .before .before .before .before .before .before .pick .ensures i)
           (c .before .before .before .before .before .pick2 .ensures i) (g .k))),
       c .up .ensures .1,

@@ -1,0 +1,26 @@
+use borrow.Author.Needs.{needs}
+use mathlib.Core.Path.{_∙_}
+use Rattle.bit_rows.specs.Bits.{bitsOf}
+use Rattle.bit_rows.specs.Sequences.{select}
+use Rattle.bit_rows.proofs.Bits.{length-bitsOf}
+use Rattle.bit_rows.proofs.Sequences.{select-le}
+use Rattle.bit_rows.proofs.Search.{found-place}
+use Rattle.bit_rows_bench.proofs.bit_rows_bench_select0.Statement.{statement}
+use Rattle.bit_rows_bench.proofs.bit_rows_bench_select0.Tie as tie
+
+select0-requires : tie.Need-select0-requires
+select0-requires c κs = search needs
+
+place-or-requires : tie.Need-place-or-requires
+place-or-requires c κs = search needs
+
+returns : tie.Need-returns
+returns c =
+    let g = c .before .before .before .before .args in
+    let row = g .row .now in
+    c .place-or .ensures
+    ∙ found-place (g .n) (select 0 (bitsOf (g .n) row) (g .j)) (c .before .select0 .result) (rw (length-bitsOf (g .n) row) at (select-le 0 (bitsOf (g .n) row) (g .j)))
+    (c .before .select0 .ensures)
+
+pub bit-rows-bench-select0-spec : {M : Type 1} → statement M
+bit-rows-bench-select0-spec = tie.close (tie.spec select0-requires place-or-requires returns)

@@ -1,0 +1,149 @@
+// How many questions of each kind were compared, and a line for each difference.
+use libc::STDOUT_FILENO;
+use plain::outcome::Outcome;
+use plain::outcome::Question;
+use plain::outcome::REFUSED;
+use plain::slices::at;
+use plain::slices::count_at;
+use plain::slices::plus;
+
+pub fn text(bytes: &[u8]) {
+    io::write_all(STDOUT_FILENO, bytes);
+}
+
+pub fn decimal(x: u32) {
+    io::print_decimal(STDOUT_FILENO, x as u64);
+}
+
+// The kinds of questions.
+fn name(kind: u32) {
+    match kind {
+        0 => text(b"write"),
+        1 => text(b"open"),
+        2 => text(b"read"),
+        3 => text(b"access"),
+        4 => text(b"rank"),
+        5 => text(b"select"),
+        6 => text(b"quantile of entries"),
+        7 => text(b"quantile of terms"),
+        8 => text(b"range of terms"),
+        9 => text(b"per mille"),
+        10 => text(b"list of entries"),
+        11 => text(b"list of terms"),
+        12 => text(b"conjunction"),
+        13 => text(b"greedy of entries"),
+        14 => text(b"greedy of terms"),
+        15 => text(b"probing of entries"),
+        _ => text(b"probing of terms"),
+    }
+}
+
+const KINDS: u32 = 17;
+
+// A refusal's slot is its number and this.
+const REFUSALS: u32 = 20;
+
+const DIFFERENCES: u32 = 63;
+
+fn same(found: Outcome, expected: Outcome) -> bool {
+    if found.what != expected.what {
+        return false;
+    }
+    if found.x != expected.x {
+        return false;
+    }
+    if found.y != expected.y {
+        return false;
+    }
+    found.z == expected.z
+}
+
+fn show(x: u32) {
+    text(b" ");
+    decimal(x);
+}
+
+fn show_outcome(o: Outcome) {
+    show(o.what);
+    show(o.x);
+    show(o.y);
+    show(o.z);
+}
+
+// The number of the library, the question, what was found and what the plain count gives.
+fn difference(q: Question, found: Outcome, expected: Outcome, made: &mut [u32; 64]) {
+    text(b"difference: library");
+    show(at(made, 0));
+    text(b", ");
+    name(q.kind);
+    show(q.a);
+    show(q.b);
+    show(q.c);
+    show(q.d);
+    show(q.answers);
+    show(q.work);
+    text(b": found");
+    show_outcome(found);
+    text(b", expected");
+    show_outcome(expected);
+    text(b"\n");
+    count_at(made, DIFFERENCES);
+}
+
+// Counts a comparison: the outcomes, and whether the lent slices are alike.
+pub fn compare(q: Question, found: Outcome, expected: Outcome, alike: bool, made: &mut [u32; 64]) {
+    count_at(made, q.kind);
+    if expected.what == REFUSED {
+        count_at(made, plus(REFUSALS, expected.x));
+    }
+    if !same(found, expected) {
+        difference(q, found, expected, made);
+        return;
+    }
+    if !alike {
+        difference(q, found, expected, made);
+    }
+}
+
+fn line(kind: u32, made: &[u32; 64]) {
+    name(kind);
+    show(at(made, kind));
+    text(b"\n");
+}
+
+fn kinds(made: &[u32; 64]) {
+    let mut kind = 0;
+    while kind < KINDS {
+        line(kind, made);
+        kind += 1;
+    }
+}
+
+fn refusal_line(x: u32, made: &[u32; 64]) {
+    let times = at(made, plus(REFUSALS, x));
+    if times == 0 {
+        return;
+    }
+    text(b"refused");
+    show(x);
+    text(b":");
+    show(times);
+    text(b"\n");
+}
+
+fn refusals(made: &[u32; 64]) {
+    let mut x = 0;
+    while x < 18 {
+        refusal_line(x, made);
+        x += 1;
+    }
+}
+
+// One line a kind of question, and how many were compared; then how many of them are refused, by number; then the differences.
+pub fn totals(made: &[u32; 64]) {
+    kinds(made);
+    refusals(made);
+    text(b"differences");
+    show(at(made, DIFFERENCES));
+    text(b"\n");
+}

@@ -1,0 +1,52 @@
+-- `count`: the lent slice keeps its length, and the counter moves to its bound.
+use Prim.Native.Nat.{_-_}
+use lib.ListN.{length}
+use mathlib.Core.Path.{_≡_}
+use borrow.Author.Needs.{needs}
+use Rattle.plain.proofs.numbers.count.Statement.{statement}
+use Rattle.plain.proofs.numbers.count.Tie as tie
+
+abbrev Inv-loop : tie.InvT-loop
+Inv-loop entries a b counts₀ i₀ counts i = length counts ≡ length counts₀
+
+abbrev μ-loop : tie.MeasureT-loop
+μ-loop entries a b counts₀ i₀ counts i = b - i
+
+loop-holds : tie.Need-loop-holds Inv-loop μ-loop
+loop-holds c = search needs
+
+at-requires : tie.Need-at-requires Inv-loop μ-loop
+at-requires c κs = search needs
+
+count-at-requires : tie.Need-count-at-requires Inv-loop μ-loop
+count-at-requires c κs = search needs
+
+add-i : tie.Need-add-i Inv-loop μ-loop
+add-i c = search needs
+
+loop-less : tie.Need-loop-less Inv-loop μ-loop
+loop-less c = search needs
+
+loop-again : tie.Need-loop-again Inv-loop μ-loop
+loop-again c = search needs
+
+same-length : tie.Need-same-length Inv-loop μ-loop
+same-length c = search needs
+
+returns : tie.Need-returns Inv-loop μ-loop
+returns c = search needs
+
+pub count-spec : {M : Type 1} → statement M
+count-spec =
+    tie.close
+    (tie.spec
+    Inv-loop
+    μ-loop
+    loop-holds
+    at-requires
+    count-at-requires
+    add-i
+    loop-less
+    loop-again
+    same-length
+    returns)
