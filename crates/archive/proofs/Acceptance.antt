@@ -6,7 +6,7 @@ use mathlib.Core.List.{List}
 use mathlib.Core.Bool.{true, false}
 use lib.ListN.{length}
 use borrow.Author.Tests.{lt-ltb, le-ltb, ne-eqb}
-use Rattle.bit_rows.specs.Bits.{numberAt}
+use Rattle.bits.specs.Bits.{numberAt}
 use Rattle.model.specs.Outcome.{Outcome, answered, refused}
 use Rattle.model.specs.Format.{Sizes, withinLimits}
 use Rattle.model.specs.Opening.{sizesAt, entriesAt, opening}

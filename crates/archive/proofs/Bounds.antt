@@ -6,7 +6,7 @@ use native.Mathlib.Omega.{arith}
 use native.Mathlib.Nat.{mul-le-mul}
 use lib.Pow.{pow-mono, shl-exact}
 use lib.Dec.{lit<}
-use Rattle.bit_rows.specs.Bits.{rowBytes, sampleCount}
+use Rattle.bits.specs.Bits.{rowBytes, sampleCount}
 use Rattle.model.specs.Rows.{height}
 use Rattle.model.specs.Format.{header}
 use Rattle.model.proofs.Height.{height-le-12}

@@ -4,4 +4,3 @@ pub mod Parts
 pub mod Acceptance
 pub mod TermTable
 pub mod Opened
-pub mod RangeEnds

@@ -6,9 +6,9 @@ use mathlib.Core.List.{List}
 use mathlib.Core.Bool.{true}
 use lib.ListN.{length, length-map}
 use lib.Seq.{take-length}
-use Rattle.bit_rows.specs.Sequences.{below}
-use Rattle.bit_rows.specs.Bits.{sum}
-use Rattle.bit_rows.proofs.Tally.{all-upFrom, length-upFrom}
+use Rattle.bits.specs.Sequences.{below}
+use Rattle.bits.specs.Bits.{sum}
+use Rattle.bits.proofs.Tally.{all-upFrom, length-upFrom}
 use Rattle.model.specs.Lists.{Within}
 use Rattle.model.specs.Format.{Sizes, archiveLength}
 use Rattle.model.specs.Opening.{sizesAt, startAt, lengthAt, entriesAt, contents}

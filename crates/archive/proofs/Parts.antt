@@ -11,10 +11,10 @@ use lib.ListN.{length}
 use lib.Seq.{take-all}
 use lib.Dec.{leb, ltb, eqb}
 use borrow.Author.Tests.{eq-eqb, ne-eqb, ltb-true, ltb-false}
-use Rattle.bit_rows.specs.Sequences.{tally, all, upFrom, below}
-use Rattle.bit_rows.specs.Bits.{numberAt, sampleCount, rowBytes}
-use Rattle.bit_rows.proofs.Tests.{look}
-use Rattle.bit_rows.proofs.Tally.{tally-le-length, all-upFrom-at}
+use Rattle.bits.specs.Sequences.{tally, all, upFrom, below}
+use Rattle.bits.specs.Bits.{numberAt, sampleCount, rowBytes}
+use Rattle.bits.proofs.Tests.{look}
+use Rattle.bits.proofs.Tally.{tally-le-length, all-upFrom-at}
 use Rattle.model.specs.Lists.{any, part}
 use Rattle.model.proofs.Lists.{any-leb}
 use Rattle.model.specs.Opening.{startAt, lengthAt, pairsHold, tableHolds}

@@ -8,9 +8,9 @@ use mathlib.Core.Bool.{true}
 use lib.ListN.{take}
 use lib.Dec.{eqb}
 use borrow.Author.Tests.{eqb-true}
-use Rattle.bit_rows.specs.Sequences.{upFrom}
-use Rattle.bit_rows.specs.Bits.{sum}
-use Rattle.bit_rows.proofs.Tests.{and-both}
+use Rattle.bits.specs.Sequences.{upFrom}
+use Rattle.bits.specs.Bits.{sum}
+use Rattle.bits.proofs.Tests.{and-both}
 use Rattle.model.specs.Format.{Library}
 use Rattle.model.specs.Opening.{startAt, lengthAt, tableHolds}
 use Rattle.model.specs.Queries.{termStart}

@@ -1,4 +1,3 @@
 -- What the contracts of archive cite, beside the definitions of model.
 pub mod Layout
 pub mod Opening
-pub mod Ranges

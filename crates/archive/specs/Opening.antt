@@ -5,8 +5,8 @@ use mathlib.Core.List.{List}
 use mathlib.Core.Bool.{Bool, not}
 use lib.ListN.{length}
 use lib.Dec.{leb, eqb}
-use Rattle.bit_rows.specs.Sequences.{all, below}
-use Rattle.bit_rows.specs.Bits.{rowBytes, sampleCount, samplesRight, unusedClear}
+use Rattle.bits.specs.Sequences.{all, below}
+use Rattle.bits.specs.Bits.{rowBytes, sampleCount, samplesRight, unusedClear}
 use Rattle.model.specs.Outcome.{Outcome, answered, refused, refuse}
 use Rattle.model.specs.Lists.{any}
 use Rattle.model.specs.Format.{Sizes, archiveLength}

@@ -1,11 +1,11 @@
 // Checks of a row that comes from elsewhere: its samples, in one pass, and its unused bits.
-use crate::count::block_ones;
-use crate::numbers::number;
+use crate::blocks::block_ones;
+use bits::number;
 ghost use mathlib.Core.Path.{_≡_};
 ghost use Prim.Native.Nat.{_≤_};
 ghost use lib.ListN.{length};
-ghost use Rattle.bit_rows.specs.Bits.{rowBytes, samplesRight, unusedClear};
-ghost use Rattle.bit_rows.specs.Rows.{Sized};
+ghost use Rattle.bits.specs.Bits.{rowBytes, samplesRight, unusedClear};
+ghost use Rattle.bits.specs.Rows.{Sized};
 
 // Whether every sample of the row is right.
 pub fn samples_right(samples: &[u8], row: &[u8], n: usize) -> bool

@@ -1,32 +1,23 @@
-// One row of bits in a lent byte slice, with its rank samples: a row is n bits in the first
-// (n + 7) / 8 bytes of a slice, its samples (n + 511) / 512 numbers of 32 bits in another.
+// One row of bits in a lent byte slice, with its rank samples: a row is n bits in the first (n + 7) / 8 bytes of a slice, its samples
+// (n + 511) / 512 numbers of 32 bits in another. A product of its own: what it offers is all here, from the parts `bits`, `bit_rank` and `bit_select`.
+mod blocks;
 mod check;
-mod count;
-mod known;
-mod numbers;
-mod rank;
-mod select;
 mod write;
 
+pub use bit_rank::rank0;
+pub use bit_rank::rank1;
+pub use bit_rank::rank1_from;
+pub use bit_select::Found;
+pub use bit_select::place_or;
+pub use bit_select::select0;
+pub use bit_select::select0_near;
+pub use bit_select::select1;
+pub use bit_select::select1_near;
+pub use bits::bit;
+pub use bits::number;
+pub use bits::ones_before;
+pub use bits::put_number;
 pub use check::samples_right;
 pub use check::unused_clear;
-pub use count::bit;
-pub use count::ones_before;
-pub use known::rank1_from;
-pub use numbers::number;
-pub use numbers::put_number;
-pub use rank::rank0;
-pub use rank::rank1;
-pub use select::place_or;
-pub use select::select0;
-pub use select::select0_near;
-pub use select::select1;
-pub use select::select1_near;
 pub use write::fill_samples;
 pub use write::put_bit;
-
-// What a search for a bit answers: its place, or nothing.
-pub enum Found {
-    At(usize),
-    Nothing,
-}

@@ -1,12 +1,12 @@
 // Writing a row: its bits one by one into zeros, then its samples.
-use crate::count::block_ones;
-use crate::numbers::put_number;
+use crate::blocks::block_ones;
+use bits::put_number;
 ghost use mathlib.Core.Path.{_≡_};
 ghost use mathlib.Core.List.{_++_};
 ghost use Prim.Native.Nat.{_*_, _<_};
 ghost use lib.ListN.{length, drop};
-ghost use Rattle.bit_rows.specs.Bits.{bitAt, bitsOf, sampleCount, samplesOf};
-ghost use Rattle.bit_rows.specs.Rows.{withBit, Sized};
+ghost use Rattle.bits.specs.Bits.{bitAt, bitsOf, sampleCount, samplesOf};
+ghost use Rattle.bits.specs.Rows.{withBit, Sized};
 
 // Stores bit b at place i, where a 0 stands; all other bits stay.
 pub fn put_bit(row: &mut [u8], i: usize, b: u8)

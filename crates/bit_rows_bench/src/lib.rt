@@ -3,9 +3,9 @@ ghost use mathlib.Core.Path.{_≡_};
 ghost use mathlib.Core.List.{_++_};
 ghost use Prim.Native.Nat.{_*_, _≤_};
 ghost use lib.ListN.{drop};
-ghost use Rattle.bit_rows.specs.Bits.{bitsOf, sampleCount, samplesOf, samplesRight};
-ghost use Rattle.bit_rows.specs.Rows.{Sized, Sampled};
-ghost use Rattle.bit_rows.specs.Sequences.{rank, select};
+ghost use Rattle.bits.specs.Bits.{bitsOf, sampleCount, samplesOf, samplesRight};
+ghost use Rattle.bits.specs.Rows.{Sized, Sampled};
+ghost use Rattle.bits.specs.Sequences.{rank, select};
 
 #[no_mangle]
 pub extern "C" fn bit_rows_bench_rank1(samples: &[u8], row: &[u8], n: usize, i: usize) -> usize

@@ -1,10 +1,10 @@
 // The cases of document 01's table that are not proved: one line each, what is found and what is expected.
 use crate::differences::decimal;
 use crate::differences::text;
+use answers::Answer;
 use archive::Opening;
 use conjunction::Terms;
 use plain::slices::low;
-use queries::Answer;
 use top_k::TopK;
 
 fn number(x: u32) {

@@ -26,9 +26,9 @@ fn list_into(archive: &[u8], q: Question, answers: &mut [u32]) -> Outcome {
         return refused(0);
     }
     if q.kind == 10 {
-        return answered(queries::list(archive, q.a, q.b, &mut answers[from..to]));
+        return answered(listing::list(archive, q.a, q.b, &mut answers[from..to]));
     }
-    answered(queries::list_terms(archive, q.a, q.b, &mut answers[from..to]))
+    answered(listing::list_terms(archive, q.a, q.b, &mut answers[from..to]))
 }
 
 // A range of entries or of terms, with a room for its documents.

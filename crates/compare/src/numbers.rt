@@ -4,7 +4,9 @@ use crate::random::below;
 use crate::random::draw;
 use crate::random::near;
 use crate::random::two_ends;
-use archive::Range;
+use answers::Answer;
+use answers::Placed;
+use archive_ranges::Range;
 use plain::outcome::NOTHING;
 use plain::outcome::NUMBER;
 use plain::outcome::Outcome;
@@ -17,8 +19,6 @@ use plain::outcome::refused;
 use plain::slices::at;
 use plain::slices::minus;
 use plain::slices::plus;
-use queries::Answer;
-use queries::Placed;
 
 pub fn answered(found: Answer) -> Outcome {
     match found {

@@ -9,13 +9,13 @@ use mathlib.Core.List.{List, [], _∷_}
 use mathlib.Core.Bool.{Bool, true, false, _&&_, and-false}
 use lib.Dec.{ltb}
 use lib.ListN.{length, getD}
-use Rattle.bit_rows.specs.Sequences.{all, upFrom, occurrences}
-use Rattle.bit_rows.specs.Bits.{sum}
-use Rattle.bit_rows.proofs.Tests.{look}
+use Rattle.bits.specs.Sequences.{all, upFrom, occurrences}
+use Rattle.bits.specs.Bits.{sum}
+use Rattle.bits.proofs.Tests.{look}
 use Rattle.model.specs.Lists.{keep}
 use Rattle.model.specs.Format.{Library}
 use Rattle.model.specs.Queries.{under, countsUnder}
-use Rattle.queries.proofs.Occurrences.{keep-none}
+use Rattle.answers.proofs.Occurrences.{keep-none}
 use Rattle.conjunction.specs.Conjunction.{firstWith, nextCommon, nextIs, noFurther}
 
 module _ (counts : ℕ → List ℕ) where

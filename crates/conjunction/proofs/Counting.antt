@@ -8,8 +8,8 @@ use mathlib.Core.List.{List, _∷_, map}
 use mathlib.Core.Bool.{cond}
 use lib.Dec.{ltb}
 use borrow.Author.Tests.{lt-ltb, le-ltb}
-use Rattle.bit_rows.specs.Sequences.{all, upFrom, below}
-use Rattle.bit_rows.specs.Bits.{sum}
+use Rattle.bits.specs.Sequences.{all, upFrom, below}
+use Rattle.bits.specs.Bits.{sum}
 use Rattle.conjunction.specs.Conjunction.{commonCount}
 
 -- a sum so far, and the counts that are left

@@ -8,7 +8,7 @@ use mathlib.Core.Bool.{Bool, _||_}
 use lib.ListN.{length, getD, take}
 use lib.Dec.{leb, ltb}
 use borrow.Author.Tests.{le-ltb, lt-leb, ne-eqb}
-use Rattle.bit_rows.specs.Sequences.{rank, select}
+use Rattle.bits.specs.Sequences.{rank, select}
 use Rattle.model.specs.Lists.{part, overwrite}
 use Rattle.model.specs.Outcome.{Outcome, answered, refuse, andThen}
 use Rattle.model.specs.Format.{Library}
@@ -17,10 +17,10 @@ use Rattle.model.specs.Papers.{listed, intersection}
 use Rattle.model.proofs.Lists.{length-part}
 use Rattle.model.proofs.Format.Valid.{any-within}
 use Rattle.model.specs.Demand2.{AnswersOver}
-use Rattle.queries.specs.declared.Answer.{Answer}
-use Rattle.queries.specs.declared.Answer.the-variants.{Number, Refused}
-use Rattle.queries.specs.declared.Placed.{Placed}
-use Rattle.queries.specs.Answers.{numberOf, placeOf, pairsOf}
+use Rattle.answers.specs.declared.Answer.{Answer}
+use Rattle.answers.specs.declared.Answer.the-variants.{Number, Refused}
+use Rattle.answers.specs.declared.Placed.{Placed}
+use Rattle.answers.specs.Answers.{numberOf, placeOf, pairsOf}
 use Rattle.conjunction.specs.declared.Terms.{Terms}
 use Rattle.conjunction.specs.Conjunction.{Asked}
 

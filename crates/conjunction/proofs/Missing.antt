@@ -8,7 +8,7 @@ use lib.ListN.{length, getD, drop, drop-of-length-le}
 use lib.Seq.{drop-cons}
 use lib.Dec.{leb}
 use borrow.Author.Tests.{leb-false}
-use Rattle.bit_rows.proofs.Tests.{or-neither}
+use Rattle.bits.proofs.Tests.{or-neither}
 use Rattle.model.specs.Lists.{any, Within}
 
 module _ (p : ℕ → Bool) (ts : List ℕ) (i : ℕ) (same : any p (drop i ts) ≡ any p ts) where

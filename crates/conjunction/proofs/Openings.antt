@@ -9,7 +9,7 @@ use lib.ListN.{length, getD}
 use mathlib.Core.Bool.{true, false, _&&_, _||_}
 use lib.Dec.{ltb}
 use borrow.Author.Tests.{ltb-true, ltb-false}
-use Rattle.bit_rows.proofs.Tests.{le-or-lt, and-both, and-cases, or-neither}
+use Rattle.bits.proofs.Tests.{le-or-lt, and-both, and-cases, or-neither}
 use Rattle.wavelet.specs.declared.Span.{Span}
 use Rattle.wavelet.specs.declared.Halves.{Halves}
 use Rattle.conjunction.specs.Paths.{frameOf, rangeIn, putHalves, Whole, Right, Held}

@@ -11,7 +11,7 @@ use lib.Seq.{sets, length-sets, getD-set-same, getD-set-other}
 use lib.Dec.{eqb}
 use borrow.Author.Tests.{eqb-false}
 use native.Mathlib.Decide.{ℕ-discrete}
-use Rattle.bit_rows.proofs.Tests.{look}
+use Rattle.bits.proofs.Tests.{look}
 use Rattle.wavelet.specs.declared.Span.{Span}
 use Rattle.wavelet.specs.declared.Halves.{Halves}
 use Rattle.conjunction.specs.Paths.{frameOf, rangeIn, putHalves, Whole, Right, Held, afterOf}

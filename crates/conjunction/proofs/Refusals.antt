@@ -6,7 +6,7 @@ use mathlib.Core.Bool.{true, false, _||_}
 use lib.ListN.{length, take}
 use lib.Dec.{leb, ltb, eqb}
 use borrow.Author.Tests.{lt-ltb, le-ltb, eq-eqb, ne-eqb}
-use Rattle.bit_rows.proofs.Tests.{or-right}
+use Rattle.bits.proofs.Tests.{or-right}
 use Rattle.model.specs.Lists.{any, overwrite}
 use Rattle.model.specs.Outcome.{answered, refused, refuse}
 use Rattle.model.specs.Opening.{contents}

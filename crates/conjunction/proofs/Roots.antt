@@ -7,7 +7,7 @@ use mathlib.Core.Logic.{_⊎_, inl, inr}
 use mathlib.Core.List.{List, [], _∷_}
 use lib.ListN.{length, getD}
 use lib.Seq.{sets, length-sets}
-use Rattle.bit_rows.proofs.Tests.{le-or-lt}
+use Rattle.bits.proofs.Tests.{le-or-lt}
 use Rattle.wavelet.specs.declared.Span.{Span}
 use Rattle.conjunction.specs.Paths.{rangeIn, Held}
 use Rattle.conjunction.proofs.Paths.{pair-first, pair-second, pair-other}

@@ -9,10 +9,10 @@ use mathlib.Core.Bool.{Bool, true, false}
 use lib.ListN.{length, length-map}
 use lib.Dec.{ltb}
 use borrow.Author.Tests.{ltb-true, ltb-false}
-use Rattle.bit_rows.specs.Sequences.{all, upFrom, below}
-use Rattle.bit_rows.specs.Bits.{sum}
-use Rattle.bit_rows.proofs.Tests.{look, le-or-lt, and-both}
-use Rattle.bit_rows.proofs.Tally.{length-upFrom}
+use Rattle.bits.specs.Sequences.{all, upFrom, below}
+use Rattle.bits.specs.Bits.{sum}
+use Rattle.bits.proofs.Tests.{look, le-or-lt, and-both}
+use Rattle.bits.proofs.Tally.{length-upFrom}
 use Rattle.wavelet.specs.declared.Span.{Span}
 use Rattle.conjunction.specs.Conjunction.{commonCount}
 use Rattle.conjunction.specs.Paths.{frameOf, rangeIn, countAt, Whole, Right}

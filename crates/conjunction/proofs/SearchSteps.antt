@@ -5,8 +5,8 @@ use mathlib.Core.List.{List, map}
 use mathlib.Core.Bool.{true}
 use lib.ListN.{length, take}
 use lib.Dec.{ltb}
-use Rattle.bit_rows.specs.Sequences.{all, below}
-use Rattle.bit_rows.specs.Bits.{sum}
+use Rattle.bits.specs.Sequences.{all, below}
+use Rattle.bits.specs.Bits.{sum}
 use Rattle.model.specs.Opening.{contents}
 use Rattle.model.specs.Queries.{countsUnder}
 use Rattle.wavelet.specs.declared.Span.{Span}

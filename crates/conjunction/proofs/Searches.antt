@@ -11,8 +11,8 @@ use lib.ListN.{length}
 use lib.Dec.{eqb}
 use lib.Pow.{pow-pos, pow-add}
 use borrow.Author.Tests.{eq-eqb, ne-eqb, eqb-true, eqb-false}
-use Rattle.bit_rows.specs.Bits.{sum}
-use Rattle.bit_rows.proofs.Tests.{look, le-or-lt}
+use Rattle.bits.specs.Bits.{sum}
+use Rattle.bits.proofs.Tests.{look, le-or-lt}
 use Rattle.wavelet.specs.declared.Span.{Span}
 use Rattle.conjunction.specs.declared.common.Node.{Node}
 use Rattle.conjunction.specs.Conjunction.{nextCommon, nextIs, noFurther}

@@ -8,8 +8,8 @@ use lib.ListN.{length, getD, take, length-map}
 use lib.Seq.{length-take-le, getD-take, ext-getD}
 use lib.Dec.{ltb, eqb}
 use borrow.Author.Tests.{le-ltb, eqb-true, eq-eqb}
-use Rattle.bit_rows.specs.Sequences.{all, occurrences, below}
-use Rattle.bit_rows.proofs.Tally.{tally-le, length-upFrom, getD-map-below}
+use Rattle.bits.specs.Sequences.{all, occurrences, below}
+use Rattle.bits.proofs.Tally.{tally-le, length-upFrom, getD-map-below}
 use Rattle.model.specs.Lists.{part}
 use Rattle.model.specs.Opening.{contents}
 use Rattle.model.specs.Queries.{termStart, under, countsUnder}

@@ -9,10 +9,10 @@ use lib.ListN.{length, take, drop, length-map, length-take, length-drop}
 use lib.Seq.{sets, length-sets}
 use lib.Dec.{ltb, eqb}
 use borrow.Author.Tests.{ltb-true}
-use Rattle.bit_rows.specs.Sequences.{occurrences, upFrom, below}
-use Rattle.bit_rows.specs.Bits.{sum}
-use Rattle.bit_rows.proofs.Tests.{and-both}
-use Rattle.bit_rows.proofs.Tally.{tally-le-length, upFrom-append, length-upFrom, map-append}
+use Rattle.bits.specs.Sequences.{occurrences, upFrom, below}
+use Rattle.bits.specs.Bits.{sum}
+use Rattle.bits.proofs.Tests.{and-both}
+use Rattle.bits.proofs.Tally.{tally-le-length, upFrom-append, length-upFrom, map-append}
 use Rattle.model.specs.Lists.{keep, part, overwrite, Within}
 use Rattle.model.specs.Format.{Library}
 use Rattle.model.specs.Queries.{Pair, flat, termStart, under, countsUnder, conjunction}
@@ -21,9 +21,9 @@ use Rattle.model.proofs.Lists.{keep-append, length-keep, within-part}
 use Rattle.archive.specs.declared.Layout.{Layout}
 use Rattle.archive.specs.Layout.{Opened}
 use Rattle.archive.proofs.Opened.{fitting, entries-size, entries-within}
-use Rattle.queries.specs.Written.{Written}
-use Rattle.queries.proofs.Occurrences.{keep-none, occurs-lt}
-use Rattle.queries.proofs.Stores.{written-none, written-pair, written-both, written-front}
+use Rattle.answers.specs.Written.{Written}
+use Rattle.answers.proofs.Occurrences.{keep-none, occurs-lt}
+use Rattle.answers.proofs.Stores.{written-none, written-pair, written-both, written-front}
 use Rattle.conjunction.specs.declared.Terms.{Terms}
 use Rattle.conjunction.specs.Conjunction.{Asked, nextCommon, nextIs, noFurther}
 use Rattle.conjunction.proofs.TermSpans.{size-is}

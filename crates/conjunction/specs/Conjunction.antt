@@ -4,8 +4,8 @@ use mathlib.Core.List.{List, [], _∷_}
 use mathlib.Core.Bool.{cond}
 use lib.ListN.{take}
 use lib.Dec.{ltb}
-use Rattle.bit_rows.specs.Sequences.{all, upFrom}
-use Rattle.bit_rows.specs.Bits.{sum}
+use Rattle.bits.specs.Sequences.{all, upFrom}
+use Rattle.bits.specs.Bits.{sum}
 use Rattle.model.specs.Lists.{keep, Within}
 use Rattle.conjunction.specs.declared.common.Next.{Next}
 use Rattle.conjunction.specs.declared.common.Next.the-variants.{Document, Nothing}

@@ -3,11 +3,11 @@ use crate::Terms;
 use crate::common::Next;
 use crate::common::next_common;
 use crate::path::put_root;
+use answers::Answer;
+use answers::put_pair;
 use archive::Layout;
 use archive::Opening;
 use archive::open;
-use queries::Answer;
-use queries::put_pair;
 ghost use mathlib.Core.Path.{_≡_};
 ghost use Prim.Native.Nat.{_*_, _≤_};
 ghost use lib.ListN.{length};
@@ -16,8 +16,8 @@ ghost use Rattle.model.specs.Lists.{any};
 ghost use Rattle.model.specs.Opening.{contents};
 ghost use Rattle.model.specs.Queries as model;
 ghost use Rattle.archive.specs.Layout.{Opened};
-ghost use Rattle.queries.specs.Answers.{pairsOf};
-ghost use Rattle.queries.specs.Written.{Lists};
+ghost use Rattle.answers.specs.Answers.{pairsOf};
+ghost use Rattle.answers.specs.Written.{Lists};
 ghost use Rattle.conjunction.specs.Conjunction.{termsOf, Asked};
 
 // The pairs go into the front of the answers; how many. The walk ends as soon as one term has no further document.

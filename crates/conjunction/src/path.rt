@@ -1,9 +1,9 @@
 // The path of a search for common documents: where the ranges of the terms lie in the two halves of every level, from the root down to the
 // node that is searched. It is pairs in a slice, a frame for each half: the bounds of its node, and the two places of each term.
 use crate::Terms;
+use answers::put_pair;
 use archive::Layout;
-use archive::term_start;
-use queries::put_pair;
+use archive_ranges::term_start;
 use wavelet::Levels;
 use wavelet::Ranked;
 use wavelet::halve_range;

@@ -9,7 +9,7 @@ use lib.ListN.{length, getD, take, set}
 use lib.Seq.{take-length, take-suc, take-suc-set}
 use lib.Dec.{leb, ltb, eqb}
 use borrow.Author.Tests.{ltb-true, ltb-false, lt-ltb}
-use Rattle.bit_rows.proofs.Tests.{look, or-right}
+use Rattle.bits.proofs.Tests.{look, or-right}
 use Rattle.model.specs.Lists.{any}
 use Rattle.model.specs.Outcome.{Outcome, answered, refused, refuse, andThen}
 use Rattle.model.specs.Format.{Library}

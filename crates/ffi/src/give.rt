@@ -1,17 +1,17 @@
 // From the answer of an operation to 0 and the out-parameters, or to the number of the refusal: one function for each shape of answer.
-use archive::Range;
-use queries::Answer;
-use queries::Placed;
+use answers::Answer;
+use answers::Placed;
+use archive_ranges::Range;
 use reader::Reading;
 use top_k::Probed;
 use top_k::TopK;
 use writer::Written;
 ghost use mathlib.Core.Path.{_≡_};
 ghost use Prim.Native.Nat.{_^_, _<_};
-ghost use Rattle.archive.specs.Ranges.{boundsIn};
+ghost use Rattle.archive_ranges.specs.Ranges.{boundsIn};
 ghost use Rattle.reader.specs.Reading.{readingOf};
 ghost use Rattle.writer.specs.Writing.{writtenOf};
-ghost use Rattle.queries.specs.Answers.{numberOf, placeOf};
+ghost use Rattle.answers.specs.Answers.{numberOf, placeOf};
 ghost use Rattle.top_k.specs.Asked.{topKOf, probedOf};
 ghost use Rattle.ffi.specs.Left as border;
 ghost use Rattle.ffi.specs.Left.{given, placed, ended, Narrow, coded, one, two, three};

@@ -7,8 +7,8 @@ use mathlib.Core.Logic.{_⊎_, inl, inr}
 use mathlib.Core.List.{List, [], _∷_, _++_, append-assoc, append-nil}
 use mathlib.Core.Bool.{Bool, true, false, cond, _||_}
 use lib.ListN.{length, set, length-append, length-set}
-use Rattle.bit_rows.specs.Sequences.{tally}
-use Rattle.bit_rows.proofs.Tally.{tally-append}
+use Rattle.bits.specs.Sequences.{tally}
+use Rattle.bits.proofs.Tally.{tally-append}
 use Rattle.model.specs.Lists.{any, overwrite}
 use Rattle.model.specs.Queries.{Pair, flat}
 use Rattle.model.specs.TopK.{Node, node, countIn, doneWith, spentWith, endedOf}

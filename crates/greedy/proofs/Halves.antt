@@ -9,8 +9,8 @@ use lib.ListN.{length, length-map}
 use lib.Dec.{eqb}
 use lib.Pow.{pow-pos}
 use borrow.Author.Tests.{ltb-true}
-use Rattle.bit_rows.specs.Sequences.{tally}
-use Rattle.bit_rows.proofs.Tally.{tally-append}
+use Rattle.bits.specs.Sequences.{tally}
+use Rattle.bits.proofs.Tally.{tally-append}
 use Rattle.frontier.specs.declared.Record.{Record}
 use Rattle.frontier.specs.Priority.{ahead, insert}
 use Rattle.frontier.specs.Heap.{queue}

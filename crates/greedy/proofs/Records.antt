@@ -8,9 +8,9 @@ use mathlib.Core.Bool.{Bool, true, false, cond}
 use lib.ListN.{length}
 use lib.Dec.{ltb, eqb}
 use lib.Pow.{pow-pos}
-use Rattle.bit_rows.specs.Sequences.{tally}
-use Rattle.bit_rows.proofs.Tests.{ltb-iff}
-use Rattle.bit_rows.proofs.Tally.{tally-append}
+use Rattle.bits.specs.Sequences.{tally}
+use Rattle.bits.proofs.Tests.{ltb-iff}
+use Rattle.bits.proofs.Tally.{tally-append}
 use Rattle.frontier.specs.Priority.{lex, ahead, insert}
 use Rattle.frontier.specs.Priority as queued
 use Rattle.frontier.proofs.Callers.{ahead-by-two, Each, insert-map}

@@ -9,7 +9,7 @@ use mathlib.Core.Bool.{Bool, true, false, not, _&&_}
 use lib.ListN.{length, drop, replicate, length-map, length-replicate}
 use lib.Dec.{ltb}
 use borrow.Author.Tests.{ltb-true, ltb-false, lt-ltb, le-ltb, not-true, not-false}
-use Rattle.bit_rows.proofs.Tests.{look, and-both, and-cases}
+use Rattle.bits.proofs.Tests.{look, and-both, and-cases}
 use Rattle.model.specs.Lists.{overwrite}
 use Rattle.model.specs.Outcome.{answered}
 use Rattle.model.specs.Queries.{Pair, flat}

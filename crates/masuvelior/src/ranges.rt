@@ -85,7 +85,7 @@ pub extern "C" fn masuvelior_list(
     ensures { λ r. ⌜ left r (one (now (listed .exit))) (one (now (answers .exit)))
         ≡ pairsLeft (listResult (now (archive .entry)) (ofEntries a b) (now (answers .entry))) (one (now (listed .entry))) ⌝ }
 {
-    give::number(queries::list(archive, a, b, answers), listed)
+    give::number(listing::list(archive, a, b, answers), listed)
 }
 
 #[no_mangle]
@@ -101,7 +101,7 @@ pub extern "C" fn masuvelior_opened_list(
         ≡ pairsLeft (listResult (now (archive .entry)) (ofEntries a b) (now (answers .entry))) (one (now (listed .entry))) ⌝ }
 {
     let l = archive::layout_in(archive);
-    give::number(queries::list_opened(archive, l, a, b, answers), listed)
+    give::number(listing::list_opened(archive, l, a, b, answers), listed)
 }
 
 // The documents of a range of terms with their counts.
@@ -116,7 +116,7 @@ pub extern "C" fn masuvelior_list_terms(
     ensures { λ r. ⌜ left r (one (now (listed .exit))) (one (now (answers .exit)))
         ≡ pairsLeft (listResult (now (archive .entry)) (ofTerms first last) (now (answers .entry))) (one (now (listed .entry))) ⌝ }
 {
-    give::number(queries::list_terms(archive, first, last, answers), listed)
+    give::number(listing::list_terms(archive, first, last, answers), listed)
 }
 
 #[no_mangle]
@@ -133,7 +133,7 @@ pub extern "C" fn masuvelior_opened_list_terms(
 {
     let l = archive::layout_in(archive);
     give::number(
-        queries::list_terms_opened(archive, l, first, last, answers),
+        listing::list_terms_opened(archive, l, first, last, answers),
         listed,
     )
 }
@@ -166,7 +166,11 @@ pub extern "C" fn masuvelior_opened_range_of_terms(
         ≡ given ends (rangeResult (now (archive .entry)) (ofTerms first last)) (two (now (from .entry)) (now (to .entry))) ⌝ }
 {
     let l = archive::layout_in(archive);
-    give::ends(archive::term_range(archive, l, first, last), from, to)
+    give::ends(
+        archive_ranges::term_range(archive, l, first, last),
+        from,
+        to,
+    )
 }
 
 // The rate.

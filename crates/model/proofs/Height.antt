@@ -9,7 +9,7 @@ use native.Mathlib.Decide.{decLe}
 use lib.Pow.{pow-mono}
 use lib.Dec.{leb}
 use borrow.Author.Tests.{leb-true, leb-false}
-use Rattle.bit_rows.proofs.Tests.{look}
+use Rattle.bits.proofs.Tests.{look}
 use Rattle.model.specs.Rows.{heightFrom, height}
 
 lt-two-pow : (n : ℕ) → n < 2 ^ n

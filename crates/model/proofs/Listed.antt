@@ -5,8 +5,8 @@ use mathlib.Core.List.{List, map}
 use mathlib.Core.Bool.{Bool, true, false, cond}
 use lib.ListN.{length, take, length-map, length-take}
 use lib.Dec.{leb}
-use Rattle.bit_rows.specs.Sequences.{below}
-use Rattle.bit_rows.proofs.Tally.{tally-le-length, length-upFrom}
+use Rattle.bits.specs.Sequences.{below}
+use Rattle.bits.proofs.Tally.{tally-le-length, length-upFrom}
 use Rattle.model.specs.Queries.{Pair, pairOf, present, listing}
 use Rattle.model.specs.TopK.{ranking, fullList, need, covered, done, spent, topK, pairsOf}
 use Rattle.model.proofs.Lists.{length-keep}

@@ -10,11 +10,11 @@ use lib.ListN.{length, getD, take, drop, length-append, length-drop, take-append
 use lib.Seq.{length-take-le, take-append-seam, split-at, getD-append-seam}
 use lib.Dec.{leb, ltb}
 use borrow.Author.Tests.{lt-ltb, le-ltb, le-leb, lt-leb}
-use Rattle.bit_rows.specs.Sequences.{bit, tally}
-use Rattle.bit_rows.specs.Bits.{concat}
-use Rattle.bit_rows.proofs.Tests.{ltb-iff}
-use Rattle.bit_rows.proofs.Tally.{tally-take-add, tally-sum, tally-true}
-pub use Rattle.bit_rows.proofs.Tally.{map-append}
+use Rattle.bits.specs.Sequences.{bit, tally}
+use Rattle.bits.specs.Bits.{concat}
+use Rattle.bits.proofs.Tests.{ltb-iff}
+use Rattle.bits.proofs.Tally.{tally-take-add, tally-sum, tally-true}
+pub use Rattle.bits.proofs.Tally.{map-append}
 use Rattle.model.specs.Lists.{keep, any, part, Within}
 
 -- ---- maps and joins

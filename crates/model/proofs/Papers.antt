@@ -9,10 +9,10 @@ use mathlib.Core.Bool.{Bool, true, false, cond, _&&_}
 use lib.ListN.{length}
 use lib.Dec.{ltb, eqb}
 use borrow.Author.Tests.{lt-ltb, le-ltb}
-use Rattle.bit_rows.specs.Sequences.{tally, all, upFrom, below, occurrences, rank}
-use Rattle.bit_rows.specs.Bits.{sum}
-use Rattle.bit_rows.proofs.Tests.{le-or-lt}
-use Rattle.bit_rows.proofs.Tally.{tally-none, tally-le-length}
+use Rattle.bits.specs.Sequences.{tally, all, upFrom, below, occurrences, rank}
+use Rattle.bits.specs.Bits.{sum}
+use Rattle.bits.proofs.Tests.{le-or-lt}
+use Rattle.bits.proofs.Tally.{tally-none, tally-le-length}
 use Rattle.model.specs.Lists.{keep, part, Within}
 use Rattle.model.specs.Format.{Library}
 use Rattle.model.specs.Queries.{Pair, termStart, quantile, pairOf, present, listing, under, countsUnder, conjunction}

@@ -7,8 +7,8 @@ use mathlib.Core.Bool.{Bool, _||_}
 use lib.ListN.{length, getD, take}
 use lib.Dec.{leb, ltb, eqb}
 use borrow.Author.Tests.{ltb-false}
-use Rattle.bit_rows.specs.Sequences.{rank, select}
-use Rattle.bit_rows.proofs.Tests.{or-neither}
+use Rattle.bits.specs.Sequences.{rank, select}
+use Rattle.bits.proofs.Tests.{or-neither}
 use Rattle.model.specs.Lists.{any, part}
 use Rattle.model.specs.Outcome.{Outcome, answered, refused, refuse, andThen}
 use Rattle.model.specs.Rows.{height}

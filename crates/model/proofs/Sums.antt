@@ -6,7 +6,7 @@ use native.Mathlib.Nat.{suc-mul, mul-le-mul-right}
 use mathlib.Core.Path.{_≡_}
 use mathlib.Core.List.{List, [], _∷_}
 use lib.ListN.{length, getD, take}
-use Rattle.bit_rows.specs.Bits.{sum}
+use Rattle.bits.specs.Bits.{sum}
 
 pub sum-take-suc : (xs : List ℕ) (i : ℕ) → i < length xs → sum (take (suc i) xs) ≡ sum (take i xs) + getD xs i 0
 sum-take-suc [] i l = absurd (omega arith)

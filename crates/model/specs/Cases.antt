@@ -3,7 +3,7 @@ use Prim.Native.Nat.{ℕ, _-_, _*_}
 use mathlib.Core.Path.{_≡_, refl}
 use mathlib.Core.List.{List, [], _∷_, _++_, map}
 use lib.ListN.{length, take, replicate}
-use Rattle.bit_rows.specs.Bits.{bitsOf, pack, samplesOf, samplesRight, unusedClear}
+use Rattle.bits.specs.Bits.{bitsOf, pack, samplesOf, samplesRight, unusedClear}
 use Rattle.model.specs.Outcome.{Outcome, answered, refused}
 use Rattle.model.specs.Format.{Library, Sizes, rowsOf, encode}
 use Rattle.model.specs.Opening.{entriesAt, opening}

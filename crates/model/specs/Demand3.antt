@@ -6,7 +6,7 @@ use mathlib.Core.List.{List, [], _∷_}
 use mathlib.Core.Bool.{Bool, true, false, _&&_, _||_}
 use lib.ListN.{length, take}
 use lib.Dec.{leb, ltb, eqb}
-use Rattle.bit_rows.specs.Sequences.{tally, below, occurrences}
+use Rattle.bits.specs.Sequences.{tally, below, occurrences}
 use Rattle.model.specs.Lists.{Every, Sorted, overwrite}
 use Rattle.model.specs.Outcome.{Outcome, answered, refused}
 use Rattle.model.specs.Rows.{height}

@@ -4,8 +4,8 @@ use mathlib.Core.List.{List, [], _∷_, _++_, map}
 use mathlib.Core.Bool.{Bool, not, _&&_}
 use lib.ListN.{length}
 use lib.Dec.{leb, ltb, eqb}
-use Rattle.bit_rows.specs.Sequences.{below}
-use Rattle.bit_rows.specs.Bits.{concat, sum, pack, littleEndian, samplesOf, sampleCount, rowBytes}
+use Rattle.bits.specs.Sequences.{below}
+use Rattle.bits.specs.Bits.{concat, sum, pack, littleEndian, samplesOf, sampleCount, rowBytes}
 use Rattle.model.specs.Lists.{any, overwrite}
 use Rattle.model.specs.Outcome.{Outcome, answered, refused, refuse, andThen}
 use Rattle.model.specs.Rows.{height, row}

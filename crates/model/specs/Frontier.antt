@@ -5,7 +5,7 @@ use mathlib.Core.Path.{_≡_}
 use mathlib.Core.List.{List, [], _∷_, _++_, map}
 use mathlib.Core.Bool.{Bool, _&&_, _||_}
 use lib.Dec.{leb, ltb, eqb}
-use Rattle.bit_rows.specs.Sequences.{tally}
+use Rattle.bits.specs.Sequences.{tally}
 use Rattle.model.specs.Lists.{Every, Sorted}
 use Rattle.model.specs.TopK.{Node, node}
 use Rattle.model.specs.Search.{Waiting}

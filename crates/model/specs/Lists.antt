@@ -5,7 +5,7 @@ use mathlib.Core.List.{List, [], _∷_, _++_}
 use mathlib.Core.Bool.{Bool, false, not, cond, _||_}
 use lib.ListN.{length, take, drop}
 use lib.Dec.{leb}
-use Rattle.bit_rows.specs.Sequences.{tally}
+use Rattle.bits.specs.Sequences.{tally}
 
 module _ {A : Type 0} where
   -- the elements that pass a test, in their order

@@ -4,8 +4,8 @@ use mathlib.Core.List.{List, [], _∷_, map}
 use mathlib.Core.Bool.{Bool, not, _&&_, _||_}
 use lib.ListN.{length, getD, take, drop}
 use lib.Dec.{leb, ltb, eqb}
-use Rattle.bit_rows.specs.Sequences.{all, below}
-use Rattle.bit_rows.specs.Bits.{bitsOf, unusedClear, numberAt, samplesRight, sampleCount, rowBytes}
+use Rattle.bits.specs.Sequences.{all, below}
+use Rattle.bits.specs.Bits.{bitsOf, unusedClear, numberAt, samplesRight, sampleCount, rowBytes}
 use Rattle.model.specs.Lists.{any, overwrite}
 use Rattle.model.specs.Outcome.{Outcome, answered, refused, refuse, andThen}
 use Rattle.model.specs.Rows.{decode}

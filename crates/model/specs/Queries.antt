@@ -4,13 +4,13 @@ use mathlib.Core.List.{List, [], _∷_, map}
 use mathlib.Core.Bool.{Bool, cond, _||_}
 use lib.ListN.{length, getD, take}
 use lib.Dec.{leb, ltb, eqb}
-use Rattle.bit_rows.specs.Sequences.{all, below, occurrences, rank, select}
-use Rattle.bit_rows.specs.Bits.{sum}
+use Rattle.bits.specs.Sequences.{all, below, occurrences, rank, select}
+use Rattle.bits.specs.Bits.{sum}
 use Rattle.model.specs.Lists.{keep, any, part, sorted, overwrite}
 use Rattle.model.specs.Outcome.{Outcome, answered, refused, refuse, andThen}
 use Rattle.model.specs.Format.{Library}
 use Rattle.model.specs.Opening.{opened}
-pub use Rattle.bit_rows.specs.Sequences.{Place, place, none, placeBelow}
+pub use Rattle.bits.specs.Sequences.{Place, place, none, placeBelow}
 
 -- ---- one entry
 

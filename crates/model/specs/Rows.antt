@@ -4,8 +4,8 @@ use mathlib.Core.List.{List, [], _∷_, map}
 use mathlib.Core.Bool.{cond}
 use lib.ListN.{getD, take, drop, replicate}
 use lib.Dec.{leb, eqb}
-use Rattle.bit_rows.specs.Sequences.{below, occurrences}
-use Rattle.bit_rows.specs.Bits.{concat}
+use Rattle.bits.specs.Sequences.{below, occurrences}
+use Rattle.bits.specs.Bits.{concat}
 use Rattle.model.specs.Lists.{keep}
 
 -- the smallest number from h upward, in so many tries, with 2 ^ h at least N

@@ -4,8 +4,8 @@ use mathlib.Core.List.{List, [], _∷_, map}
 use mathlib.Core.Bool.{Bool, cond, _&&_, _||_}
 use lib.ListN.{length, take, replicate}
 use lib.Dec.{leb, ltb, eqb}
-use Rattle.bit_rows.specs.Sequences.{tally, below}
-use Rattle.bit_rows.specs.Bits.{concat}
+use Rattle.bits.specs.Sequences.{tally, below}
+use Rattle.bits.specs.Bits.{concat}
 use Rattle.model.specs.Lists.{overwrite}
 use Rattle.model.specs.Outcome.{Outcome, answered, refused, refuse, andThen}
 use Rattle.model.specs.Rows.{height}

@@ -5,7 +5,7 @@ use mathlib.Core.List.{List}
 use mathlib.Core.Bool.{cond}
 use lib.ListN.{take}
 use lib.Dec.{ltb, eqb}
-use Rattle.bit_rows.specs.Sequences.{tally, rank, select}
+use Rattle.bits.specs.Sequences.{tally, rank, select}
 
 -- ---- where a node's entries stand in its row
 

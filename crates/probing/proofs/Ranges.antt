@@ -5,8 +5,8 @@ use mathlib.Core.Path.{_≡_}
 use mathlib.Core.List.{List}
 use lib.ListN.{length}
 use lib.Dec.{eqb}
-use Rattle.bit_rows.specs.Sequences.{occurrences}
-use Rattle.bit_rows.proofs.Tally.{tally-le-length}
+use Rattle.bits.specs.Sequences.{occurrences}
+use Rattle.bits.proofs.Tally.{tally-le-length}
 use Rattle.model.proofs.Lists.{length-part, within-part}
 use Rattle.wavelet.specs.Levels.{entriesIn}
 use Rattle.wavelet.proofs.Stored.{length-entriesIn}

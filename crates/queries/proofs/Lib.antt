@@ -1,5 +1,2 @@
 -- Laws of the questions.
-pub mod Stores
-pub mod Occurrences
 pub mod Results
-pub mod Listed

@@ -7,20 +7,20 @@ use mathlib.Core.Bool.{Bool, true, false, cond}
 use lib.ListN.{length, getD}
 use lib.Dec.{leb, ltb, eqb}
 use borrow.Author.Tests.{ltb-true, lt-ltb, le-ltb, le-leb, lt-leb, eq-eqb, ne-eqb}
-use Rattle.bit_rows.specs.declared.Found.{Found}
-use Rattle.bit_rows.specs.Sequences.{rank, select}
-use Rattle.bit_rows.specs.Rows.{foundOf}
-use Rattle.bit_rows.proofs.Tests.{or-right}
+use Rattle.bit_select.specs.declared.Found.{Found}
+use Rattle.bits.specs.Sequences.{rank, select}
+use Rattle.bit_select.specs.Search.{foundOf}
+use Rattle.bits.proofs.Tests.{or-right}
 use Rattle.model.specs.Lists.{Within}
 use Rattle.model.specs.Outcome.{answered, refused}
 use Rattle.model.specs.Opening.{contents}
-use Rattle.model.specs.Queries.{place, none, placeBelow, Range, boundsOf, quantile, accessResult, rankResult, selectResult, rangeResult, quantileResult, listResult}
+use Rattle.model.specs.Queries.{place, none, placeBelow, Range, boundsOf, quantile, accessResult, rankResult, selectResult, rangeResult, quantileResult}
 use Rattle.model.proofs.Wavelet.Sorted.{quantile-ranked, tally-below-suc}
-use Rattle.queries.proofs.Occurrences.{occurs-lt}
+use Rattle.answers.proofs.Occurrences.{occurs-lt}
 use Rattle.archive.specs.declared.Layout.{Layout}
 use Rattle.archive.specs.Layout.{Opened}
 use Rattle.archive.proofs.Opened.{entries-size, documents-are}
-use Rattle.queries.specs.Ranges.{quantileOf, listOf}
+use Rattle.queries.specs.Ranges.{quantileOf}
 
 -- ---- a place that is found
 
@@ -90,6 +90,3 @@ module _ (bytes : List ℕ) (l : Layout) (o : Opened bytes l) where
 
   pub quantile-is : (range : Range) (r : ℕ) → quantileOf (contents bytes) (boundsOf (contents bytes) range) r ≡ quantileResult bytes range r
   quantile-is range r = rw (o .accepted)
-
-  pub list-is : (range : Range) (answers : List ℕ) → listOf (contents bytes) (boundsOf (contents bytes) range) answers ≡ listResult bytes range answers
-  list-is range answers = rw (o .accepted)

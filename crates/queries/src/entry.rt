@@ -1,6 +1,6 @@
 // Questions of one entry: which it is, how often a document occurs before it, where a document occurs.
-use crate::Answer;
-use crate::Placed;
+use answers::Answer;
+use answers::Placed;
 use archive::Layout;
 use archive::Opening;
 use archive::open;
@@ -8,12 +8,12 @@ use bit_rows::Found;
 ghost use mathlib.Core.Path.{_≡_};
 ghost use Prim.Native.Nat.{_≤_, _<_};
 ghost use lib.ListN.{getD};
-ghost use Rattle.bit_rows.specs.Sequences as sequences;
-ghost use Rattle.bit_rows.specs.Rows.{foundOf};
+ghost use Rattle.bits.specs.Sequences as sequences;
+ghost use Rattle.bit_select.specs.Search.{foundOf};
 ghost use Rattle.model.specs.Opening.{contents};
 ghost use Rattle.model.specs.Queries.{accessResult, rankResult, selectResult};
 ghost use Rattle.archive.specs.Layout.{Opened};
-ghost use Rattle.queries.specs.Answers.{numberOf, placeOf};
+ghost use Rattle.answers.specs.Answers.{numberOf, placeOf};
 
 // The entry at a place.
 pub fn access_in(archive: &[u8], l: Layout, place: usize) -> usize

@@ -1,8 +1,8 @@
 // Questions of numbers alone.
-use crate::Answer;
+use answers::Answer;
 ghost use mathlib.Core.Path.{_≡_};
 ghost use Rattle.model.specs.Queries.{perMilleResult};
-ghost use Rattle.queries.specs.Answers.{numberOf};
+ghost use Rattle.answers.specs.Answers.{numberOf};
 
 // The rate: count × 1,000 / size of a range, rounded down.
 pub fn per_mille(count: u32, size: u32) -> Answer

@@ -1,19 +1,19 @@
 // Quantile: the document of rank r in a range.
-use crate::Answer;
+use answers::Answer;
 use archive::Layout;
 use archive::Opening;
-use archive::Range;
-use archive::entry_range;
 use archive::open;
-use archive::term_range;
+use archive_ranges::Range;
+use archive_ranges::entry_range;
+use archive_ranges::term_range;
 ghost use mathlib.Core.Path.{_≡_};
 ghost use Prim.Native.Nat.{_-_, _≤_, _<_};
 ghost use Rattle.model.specs.Lists.{part};
 ghost use Rattle.model.specs.Opening.{contents};
 ghost use Rattle.model.specs.Queries as model;
 ghost use Rattle.archive.specs.Layout.{Opened};
-ghost use Rattle.queries.specs.Answers.{numberOf};
-ghost use Rattle.archive.specs.Ranges.{boundsIn, Inside};
+ghost use Rattle.answers.specs.Answers.{numberOf};
+ghost use Rattle.archive_ranges.specs.Ranges.{boundsIn, Inside};
 ghost use Rattle.queries.specs.Ranges.{quantileOf};
 
 pub fn quantile_in(archive: &[u8], l: Layout, a: usize, b: usize, r: usize) -> usize

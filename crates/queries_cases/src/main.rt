@@ -1,9 +1,9 @@
 // Document 01's small library asked through the code, and refusals in their order: each line has what was found beside what is expected.
 // A lent slice holds nines, and is written out whole after a question that fills it.
-use archive::Range;
+use answers::Answer;
+use answers::Placed;
+use archive_ranges::Range;
 use conjunction::Terms;
-use queries::Answer;
-use queries::Placed;
 
 fn write(text: &[u8]) {
     io::write_all(1, text);
@@ -64,7 +64,7 @@ fn write_slice(slice: &[u32]) {
 }
 
 fn list_case(archive: &[u8], a: u32, b: u32, answers: &mut [u32], expected: &[u8]) {
-    number_case(b"list: ", queries::list(archive, a, b, answers), b" in");
+    number_case(b"list: ", listing::list(archive, a, b, answers), b" in");
     write_slice(answers);
     write(expected);
 }

@@ -4,7 +4,7 @@ use mathlib.Core.Path.{_≡_, sym, ap, _∙_}
 use mathlib.Core.List.{List, _++_, map}
 use native.Mathlib.Omega.{arith}
 use lib.ListN.{length, drop}
-use Rattle.bit_rows.specs.Sequences.{below}
+use Rattle.bits.specs.Sequences.{below}
 use Rattle.model.specs.Lists.{overwrite}
 use Rattle.model.specs.Format.{Sizes}
 use Rattle.model.specs.Opening.{lengthAt, contents}

@@ -9,10 +9,10 @@ use native.Mathlib.Omega.{arith}
 use lib.ListN.{length, getD, set, take, drop, length-map, length-drop}
 use lib.Seq.{getD-take, getD-set-same, getD-set-other, take-all, ext-getD}
 use lib.Dec.{ltb, eqb}
-use Rattle.bit_rows.specs.Sequences.{below, tally}
-use Rattle.bit_rows.specs.Bits.{bitAt, rowBytes}
-use Rattle.bit_rows.proofs.Tally.{tally-same, tally-map, tally-le-length, length-upFrom, getD-map-below}
-use Rattle.bit_rows.proofs.Bits.{getD-bitsOf}
+use Rattle.bits.specs.Sequences.{below, tally}
+use Rattle.bits.specs.Bits.{bitAt, rowBytes}
+use Rattle.bits.proofs.Tally.{tally-same, tally-map, tally-le-length, length-upFrom, getD-map-below}
+use Rattle.bits.proofs.Bits.{getD-bitsOf}
 use Rattle.model.specs.Lists.{Within}
 use Rattle.model.specs.Rows.{row}
 use Rattle.model.specs.Opening.{lengthAt}

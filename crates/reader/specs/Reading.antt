@@ -4,8 +4,8 @@ use mathlib.Core.Path.{_≡_}
 use mathlib.Core.List.{List, map}
 use lib.ListN.{length, getD, take}
 use lib.Dec.{ltb, eqb}
-use Rattle.bit_rows.specs.Sequences.{tally}
-use Rattle.bit_rows.specs.Bits.{bitAt, rowBytes}
+use Rattle.bits.specs.Sequences.{tally}
+use Rattle.bits.specs.Bits.{bitAt, rowBytes}
 use Rattle.model.specs.Outcome.{Outcome, answered, refused}
 use Rattle.model.specs.Format.{Sizes}
 use Rattle.model.specs.Opening.{ReadResult}

@@ -1,7 +1,7 @@
 -- The case of document 01: f 0, l 2, k 2, allowance 9 and the small library.
 use mathlib.Core.Path.{_≡_, refl}
 use mathlib.Core.List.{[], _∷_, _++_}
-use Rattle.bit_rows.specs.Bits.{bitsOf, littleEndian, samplesRight, unusedClear}
+use Rattle.bits.specs.Bits.{bitsOf, littleEndian, samplesRight, unusedClear}
 use Rattle.model.specs.Opening.{entriesAt, opening}
 use Rattle.model.specs.Cases.{smallArchive}
 use Rattle.report.specs.Report.{decimal, report}

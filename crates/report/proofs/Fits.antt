@@ -11,10 +11,10 @@ use lib.Pow.{pow-mono}
 use lib.Seq.{take-all}
 use lib.Dec.{leb, ltb, eqb}
 use borrow.Author.Tests.{leb-false, ltb-true, lt-ltb}
-use Rattle.bit_rows.specs.Sequences.{all, upFrom, below}
-use Rattle.bit_rows.specs.Bits.{concat, samplesRight, unusedClear, numberAt}
-use Rattle.bit_rows.proofs.Tests.{look, and-both, both-and}
-use Rattle.bit_rows.proofs.Tally.{tally-le, tally-le-length, tally-map, length-upFrom}
+use Rattle.bits.specs.Sequences.{all, upFrom, below}
+use Rattle.bits.specs.Bits.{concat, samplesRight, unusedClear, numberAt}
+use Rattle.bits.proofs.Tests.{look, and-both, both-and}
+use Rattle.bits.proofs.Tally.{tally-le, tally-le-length, tally-map, length-upFrom}
 use Rattle.model.specs.Lists.{any, part, overwrite, Every}
 use Rattle.model.specs.Outcome.{Outcome, answered, refused, refuse, andThen}
 use Rattle.model.specs.Rows.{height}

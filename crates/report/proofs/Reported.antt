@@ -7,7 +7,7 @@ use lib.ListN.{length, getD, length-append}
 use lib.Seq.{getD-append-add}
 use lib.Dec.{ltb}
 use borrow.Author.Tests.{le-ltb}
-use Rattle.bit_rows.specs.Sequences.{upFrom}
+use Rattle.bits.specs.Sequences.{upFrom}
 use Rattle.model.specs.Lists.{overwrite}
 use Rattle.model.specs.Outcome.{Outcome, answered, refused, refuse, andThen}
 use Rattle.model.specs.Rows.{height}

@@ -7,7 +7,7 @@ use mathlib.Core.Logic.{_⊎_, inl, inr}
 use mathlib.Core.List.{List, [], _∷_, _++_, append-nil, append-assoc}
 use lib.ListN.{length, take, set, length-set, length-append}
 use lib.Seq.{take-length, set-out, set-at}
-use Rattle.bit_rows.proofs.Tests.{le-or-lt}
+use Rattle.bits.proofs.Tests.{le-or-lt}
 use Rattle.model.specs.Lists.{overwrite}
 use Rattle.model.specs.Queries.{Pair}
 use Rattle.report.specs.Report.{lineOf, linesOf, shown}

@@ -4,7 +4,7 @@ use mathlib.Core.List.{List, [], _∷_, _++_}
 use mathlib.Core.Bool.{cond}
 use lib.ListN.{length, take, drop}
 use lib.Dec.{ltb}
-use Rattle.bit_rows.specs.Bits.{numberAt}
+use Rattle.bits.specs.Bits.{numberAt}
 use Rattle.model.specs.Lists.{overwrite}
 use Rattle.model.specs.Outcome.{Outcome, answered, refused, andThen}
 use Rattle.model.specs.Rows.{height}

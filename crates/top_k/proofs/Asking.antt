@@ -7,7 +7,7 @@ use mathlib.Core.Bool.{Bool, true, false, cond}
 use lib.ListN.{length}
 use lib.Dec.{ltb}
 use borrow.Author.Tests.{ltb-false}
-use Rattle.bit_rows.proofs.Tests.{look}
+use Rattle.bits.proofs.Tests.{look}
 use Rattle.model.specs.Lists.{part, Within}
 use Rattle.model.specs.Outcome.{Outcome, answered, refused, refuse, andThen}
 use Rattle.model.specs.Format.{Library}
@@ -16,10 +16,10 @@ use Rattle.model.specs.Queries as model
 use Rattle.model.specs.Queries.{boundsOf, inRange}
 use Rattle.model.specs.TopK.{Found, foundInto, searchResult, greedyResult, probingResult}
 use Rattle.archive.specs.declared.Layout.{Layout}
-use Rattle.archive.specs.declared.Range.{Range}
-use Rattle.archive.specs.declared.Range.the-variants as range
+use Rattle.archive_ranges.specs.declared.Range.{Range}
+use Rattle.archive_ranges.specs.declared.Range.the-variants as range
 use Rattle.archive.specs.Layout.{Opened}
-use Rattle.archive.specs.Ranges.{boundsIn, Inside}
+use Rattle.archive_ranges.specs.Ranges.{boundsIn, Inside}
 use Rattle.archive.proofs.Opened.{limits, stored, entries-are, entries-within, documents-are}
 use Rattle.search.specs.declared.Search.{Search}
 use Rattle.top_k.specs.declared.Query.{Query}

@@ -10,8 +10,8 @@ use Rattle.model.specs.Queries as model
 use Rattle.model.specs.Queries.{inRange}
 use Rattle.model.specs.TopK.{Ended, doneWith, spentWith, Found, SearchResult}
 use Rattle.archive.specs.declared.Layout.{Layout}
-use Rattle.archive.specs.declared.Range.{Range}
-use Rattle.archive.specs.declared.Range.the-variants as range
+use Rattle.archive_ranges.specs.declared.Range.{Range}
+use Rattle.archive_ranges.specs.declared.Range.the-variants as range
 use Rattle.search.specs.declared.Search.{Search}
 use Rattle.top_k.specs.declared.Query.{Query}
 use Rattle.top_k.specs.declared.Query.the-variants as query

@@ -1,7 +1,7 @@
 // A question of top-k before the search: the range is known, and the lent slices are measured.
 use crate::Query;
 use archive::Layout;
-use archive::Range;
+use archive_ranges::Range;
 use search::Search;
 ghost use mathlib.Core.Path.{_≡_};
 ghost use Prim.Native.Nat.{_≤_, min};

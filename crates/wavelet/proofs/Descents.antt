@@ -11,8 +11,8 @@ use lib.ListN.{length, getD, take}
 use lib.Pow.{pow-pos, pow-mono}
 use lib.Dec.{ltb, eqb}
 use borrow.Author.Tests.{eq-eqb, ne-eqb, lt-ltb}
-use Rattle.bit_rows.specs.Sequences.{tally, rank}
-use Rattle.bit_rows.proofs.Tally.{tally-le-length}
+use Rattle.bits.specs.Sequences.{tally, rank}
+use Rattle.bits.proofs.Tally.{tally-le-length}
 use Rattle.model.specs.Lists.{part}
 use Rattle.model.specs.Rows.{row}
 use Rattle.model.specs.Walk.{key, pos}

@@ -11,15 +11,15 @@ use lib.ListN.{length}
 use lib.Seq.{take-length}
 use lib.Dec.{eqb, ltb}
 use borrow.Author.Tests.{lt-ltb, le-ltb}
-use Rattle.bit_rows.specs.Sequences.{occurrences, rank, select, Place, place, none, placeBelow}
-use Rattle.bit_rows.specs.Rows.{foundOf, placeOr}
-use Rattle.bit_rows.specs.declared.Found.{Found}
+use Rattle.bits.specs.Sequences.{occurrences, rank, select, Place, place, none, placeBelow}
+use Rattle.bit_select.specs.Search.{foundOf, placeOr}
+use Rattle.bit_select.specs.declared.Found.{Found}
 use Rattle.model.specs.Walk.{left, right, rankFrom, selectFrom}
 use Rattle.model.proofs.Wavelet.Counts.{ones-step}
 use Rattle.model.proofs.Wavelet.Rank.{rank-walk}
 use Rattle.model.proofs.Wavelet.Rows.{row-length, row-below}
-use Rattle.bit_rows.proofs.Sequences.{select-le, select-none}
-use Rattle.bit_rows.proofs.Search.{found-place}
+use Rattle.bits.proofs.Sequences.{select-le, select-none}
+use Rattle.bit_select.proofs.Search.{found-place}
 use Rattle.model.proofs.Wavelet.Rows.{rows-of}
 use Rattle.model.proofs.Wavelet.Place.{select-ge, select-placed, zeros-front}
 use Rattle.model.proofs.Wavelet.Select.{select-walk}

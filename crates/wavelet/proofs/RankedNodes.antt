@@ -4,7 +4,7 @@ use native.Mathlib.Nat.{le-trans}
 use native.Mathlib.Omega.{arith}
 use mathlib.Core.Path.{_≡_, ap}
 use mathlib.Core.List.{List}
-use Rattle.bit_rows.specs.Sequences.{rank}
+use Rattle.bits.specs.Sequences.{rank}
 use Rattle.model.specs.Walk.{left}
 use Rattle.model.proofs.Wavelet.Counts.{ones-mono, ones-step, left-le}
 use Rattle.wavelet.specs.declared.Ranked.{Ranked}

@@ -5,7 +5,7 @@ use native.Mathlib.Omega.{arith}
 use mathlib.Core.Path.{_≡_, sym}
 use mathlib.Core.List.{List}
 use lib.ListN.{length}
-use Rattle.bit_rows.specs.Sequences.{rank}
+use Rattle.bits.specs.Sequences.{rank}
 use Rattle.model.specs.Lists.{part, Within}
 use Rattle.model.specs.Rows.{row}
 use Rattle.model.specs.TopK.{node, countIn}

@@ -6,9 +6,9 @@ use mathlib.Core.Path.{_≡_}
 use mathlib.Core.List.{List}
 use lib.ListN.{length, drop, length-drop}
 use lib.Seq.{length-take-le}
-use Rattle.bit_rows.specs.Bits.{bitsOf, rowBytes, sampleCount}
-use Rattle.bit_rows.specs.Rows.{Sampled}
-use Rattle.bit_rows.proofs.Bits.{length-bitsOf, getD-bitsOf, bitAt-lt}
+use Rattle.bits.specs.Bits.{bitsOf, rowBytes, sampleCount}
+use Rattle.bits.specs.Rows.{Sampled}
+use Rattle.bits.proofs.Bits.{length-bitsOf, getD-bitsOf, bitAt-lt}
 use Rattle.model.specs.Lists.{Within}
 use Rattle.model.specs.Rows.{decode}
 use Rattle.model.proofs.Lists.{within-of}

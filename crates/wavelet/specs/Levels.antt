@@ -4,7 +4,7 @@ use mathlib.Core.Path.{_≡_}
 use mathlib.Core.List.{List}
 use mathlib.Core.Bool.{true}
 use lib.ListN.{length, take, drop}
-use Rattle.bit_rows.specs.Bits.{bitsOf, rowBytes, sampleCount, samplesRight}
+use Rattle.bits.specs.Bits.{bitsOf, rowBytes, sampleCount, samplesRight}
 use Rattle.model.specs.Rows.{row, decode}
 use Rattle.wavelet.specs.declared.Levels.{Levels}
 

@@ -3,9 +3,9 @@ use Prim.Native.Nat.{ℕ, _+_, _-_}
 use mathlib.Core.List.{List}
 use mathlib.Core.Bool.{cond}
 use lib.Dec.{eqb, ltb}
-use Rattle.bit_rows.specs.Sequences.{rank, select, Place, place, none}
-use Rattle.bit_rows.specs.declared.Found.{Found}
-use Rattle.bit_rows.specs.declared.Found.the-variants.{At, Nothing}
+use Rattle.bits.specs.Sequences.{rank, select, Place, place, none}
+use Rattle.bit_select.specs.declared.Found.{Found}
+use Rattle.bit_select.specs.declared.Found.the-variants.{At, Nothing}
 use Rattle.model.specs.Walk.{rankFrom, selectFrom}
 
 -- how many places a search answers

@@ -1,7 +1,7 @@
 -- What the questions on a range answer.
 use Prim.Native.Nat.{ℕ, _-_}
 use mathlib.Core.List.{List}
-use Rattle.bit_rows.specs.Sequences.{occurrences}
+use Rattle.bits.specs.Sequences.{occurrences}
 use Rattle.model.specs.Queries.{quantile}
 use Rattle.model.specs.Walk.{quantileFrom}
 use Rattle.wavelet.specs.declared.Levels.{Levels}

@@ -4,7 +4,7 @@ use mathlib.Core.List.{List}
 use mathlib.Core.Bool.{cond}
 use lib.ListN.{length}
 use lib.Dec.{eqb}
-use Rattle.bit_rows.specs.Sequences.{rank}
+use Rattle.bits.specs.Sequences.{rank}
 use Rattle.model.specs.Walk.{left, right, pos}
 use Rattle.wavelet.specs.declared.Span.{Span}
 use Rattle.wavelet.specs.declared.Halves.{Halves}

@@ -10,8 +10,8 @@ ghost use mathlib.Core.Path.{_≡_};
 ghost use mathlib.Core.Bool.{cond};
 ghost use Prim.Native.Nat.{_+_, _-_, _^_, _≤_, _<_};
 ghost use lib.Dec.{eqb};
-ghost use Rattle.bit_rows.specs.Sequences as sequences;
-ghost use Rattle.bit_rows.specs.Rows.{foundOf, placeOr};
+ghost use Rattle.bits.specs.Sequences as sequences;
+ghost use Rattle.bit_select.specs.Search.{foundOf, placeOr};
 ghost use Rattle.wavelet.specs.Levels.{Stored, entriesIn, levelOf};
 ghost use Rattle.wavelet.specs.Places.{found, upFromHalf, offsetFrom};
 

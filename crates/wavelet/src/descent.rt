@@ -6,7 +6,7 @@ use crate::node::step;
 ghost use mathlib.Core.Path.{_≡_};
 ghost use Prim.Native.Nat.{_^_, _≤_, _<_};
 ghost use lib.ListN.{getD};
-ghost use Rattle.bit_rows.specs.Sequences as sequences;
+ghost use Rattle.bits.specs.Sequences as sequences;
 ghost use Rattle.wavelet.specs.Levels.{Stored, entriesIn};
 
 // The entry at place i: down by the bits that stand at its places.

@@ -4,8 +4,8 @@ use bit_rows::Found;
 ghost use mathlib.Core.Path.{_≡_};
 ghost use Prim.Native.Nat.{_≤_, _<_};
 ghost use lib.ListN.{getD};
-ghost use Rattle.bit_rows.specs.Sequences.{rank, select, placeBelow};
-ghost use Rattle.bit_rows.specs.Rows.{foundOf};
+ghost use Rattle.bits.specs.Sequences.{rank, select, placeBelow};
+ghost use Rattle.bit_select.specs.Search.{foundOf};
 ghost use Rattle.wavelet.specs.Levels.{Stored, samplesIn, rowIn, levelOf};
 
 // The samples of level j.

@@ -7,7 +7,7 @@ use crate::node::halve;
 ghost use mathlib.Core.Path.{_≡_};
 ghost use Prim.Native.Nat.{_-_, _^_, _≤_, _<_};
 ghost use lib.Dec.{ltb};
-ghost use Rattle.bit_rows.specs.Sequences.{tally};
+ghost use Rattle.bits.specs.Sequences.{tally};
 ghost use Rattle.model.specs.Lists.{part};
 ghost use Rattle.wavelet.specs.Levels.{Stored, entriesIn};
 ghost use Rattle.wavelet.specs.Spans.{span, Ordered};

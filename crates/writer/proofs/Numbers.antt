@@ -6,7 +6,7 @@ use native.Mathlib.Numerals.{add-one}
 use native.Mathlib.Omega.{arith}
 use lib.ListN.{length, getD, take}
 use lib.Seq.{take-suc}
-use Rattle.bit_rows.specs.Bits.{concat, sum, littleEndian}
+use Rattle.bits.specs.Bits.{concat, sum, littleEndian}
 use Rattle.model.specs.Format.{tableFrom}
 use Rattle.model.proofs.Lists.{map-append, concat-append}
 

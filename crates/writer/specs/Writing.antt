@@ -3,7 +3,7 @@ use Prim.Native.Nat.{ℕ, _+_, _*_, _^_, _≤_, _<_}
 use mathlib.Core.Path.{_≡_}
 use mathlib.Core.List.{List, _++_}
 use lib.ListN.{length, take, drop}
-use Rattle.bit_rows.specs.Bits.{pack, samplesOf, rowBytes, sampleCount}
+use Rattle.bits.specs.Bits.{pack, samplesOf, rowBytes, sampleCount}
 use Rattle.model.specs.Lists.{Within}
 use Rattle.model.specs.Outcome.{Outcome, answered, refused}
 use Rattle.model.specs.Rows.{row}

@@ -12,7 +12,7 @@ ghost use mathlib.Core.Path.{_≡_};
 ghost use Prim.Native.Nat.{_≤_, _<_};
 ghost use lib.ListN.{length};
 ghost use lib.Dec.{leb};
-ghost use Rattle.bit_rows.specs.Bits.{sum};
+ghost use Rattle.bits.specs.Bits.{sum};
 ghost use Rattle.model.specs.Lists.{any, overwrite};
 ghost use Rattle.model.specs.Format.{library, encode, writeResult};
 ghost use Rattle.writer.specs.Writing.{Writable, writtenIs};

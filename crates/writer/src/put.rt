@@ -6,7 +6,7 @@ ghost use mathlib.Core.Path.{_≡_};
 ghost use mathlib.Core.List.{map};
 ghost use Prim.Native.Nat.{_+_, _*_, _^_, _≤_, _<_};
 ghost use lib.ListN.{length, take};
-ghost use Rattle.bit_rows.specs.Bits.{concat, sum, littleEndian};
+ghost use Rattle.bits.specs.Bits.{concat, sum, littleEndian};
 ghost use Rattle.model.specs.Lists.{Within};
 ghost use Rattle.model.specs.Format.{header, tableFrom};
 ghost use Rattle.archive.specs.Layout.{sizesIn, Fitting};

@@ -1,10 +1,10 @@
 use borrow.Author.Needs.{needs}
 use mathlib.Core.Path.{_∙_}
-use Rattle.bit_rows.specs.Bits.{bitsOf}
-use Rattle.bit_rows.specs.Sequences.{select}
-use Rattle.bit_rows.proofs.Bits.{length-bitsOf}
-use Rattle.bit_rows.proofs.Sequences.{select-le}
-use Rattle.bit_rows.proofs.Search.{found-place}
+use Rattle.bits.specs.Bits.{bitsOf}
+use Rattle.bits.specs.Sequences.{select}
+use Rattle.bits.proofs.Bits.{length-bitsOf}
+use Rattle.bits.proofs.Sequences.{select-le}
+use Rattle.bit_select.proofs.Search.{found-place}
 use Rattle.bit_rows_bench.proofs.bit_rows_bench_select1.Statement.{statement}
 use Rattle.bit_rows_bench.proofs.bit_rows_bench_select1.Tie as tie
 

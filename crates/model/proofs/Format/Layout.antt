@@ -6,11 +6,11 @@ use mathlib.Core.Path.{_≡_, refl, sym, ap, ap₂, _∙_}
 use mathlib.Core.List.{List, [], _∷_, _++_, map, map-map, append-assoc, append-nil}
 use lib.ListN.{length, getD, take, drop, length-append}
 use lib.Seq.{drop-append-add}
-use Rattle.bit_rows.specs.Sequences.{below}
-use Rattle.bit_rows.specs.Bits.{concat, sum, pack, littleEndian, numberAt, samplesOf, sampleCount, rowBytes}
-use Rattle.bit_rows.proofs.Chunks.{length-chunks, chunk-at}
-use Rattle.bit_rows.proofs.Pack.{length-pack}
-use Rattle.bit_rows.proofs.LittleEndian.{length-numbers, numberAt-numbers, length-samples}
+use Rattle.bits.specs.Sequences.{below}
+use Rattle.bits.specs.Bits.{concat, sum, pack, littleEndian, numberAt, samplesOf, sampleCount, rowBytes}
+use Rattle.bits.proofs.Chunks.{length-chunks, chunk-at}
+use Rattle.bits.proofs.Pack.{length-pack}
+use Rattle.bits.proofs.LittleEndian.{length-numbers, numberAt-numbers, length-samples}
 use Rattle.model.specs.Lists.{Within}
 use Rattle.model.specs.Rows.{height, row}
 use Rattle.model.specs.Format.{Library, Sizes, sizesOf, samplesOffset, samplesLength, rowsOffset, rowsLength, archiveLength, header, tableFrom, encode}

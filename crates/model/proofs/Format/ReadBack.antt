@@ -9,12 +9,12 @@ use lib.ListN.{length, getD, take, length-map, List·getD-append}
 use lib.Seq.{ext-getD, take-length, getD-append-add}
 use lib.Dec.{leb, eqb}
 use borrow.Author.Tests.{le-ltb, eq-eqb}
-use Rattle.bit_rows.specs.Sequences.{all, upFrom, below}
-use Rattle.bit_rows.specs.Bits.{sum, bitsOf, pack, unusedClear, numberAt, samplesOf, samplesRight}
-use Rattle.bit_rows.proofs.Tests.{both-and}
-use Rattle.bit_rows.proofs.Tally.{all-upFrom, length-upFrom, getD-map-below}
-use Rattle.bit_rows.proofs.Pack.{bitsOf-pack, unused-pack}
-use Rattle.bit_rows.proofs.LittleEndian.{samples-right}
+use Rattle.bits.specs.Sequences.{all, upFrom, below}
+use Rattle.bits.specs.Bits.{sum, bitsOf, pack, unusedClear, numberAt, samplesOf, samplesRight}
+use Rattle.bits.proofs.Tests.{both-and}
+use Rattle.bits.proofs.Tally.{all-upFrom, length-upFrom, getD-map-below}
+use Rattle.bits.proofs.Pack.{bitsOf-pack, unused-pack}
+use Rattle.bits.proofs.LittleEndian.{samples-right}
 use Rattle.model.specs.Lists.{any, Within}
 use Rattle.model.specs.Outcome.{answered, refuse}
 use Rattle.model.specs.Rows.{height, row}

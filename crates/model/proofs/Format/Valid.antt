@@ -7,8 +7,8 @@ use mathlib.Core.Bool.{Bool, true, false, not, _&&_}
 use lib.ListN.{length}
 use lib.Dec.{leb, eqb}
 use borrow.Author.Tests.{leb-true, leb-false, le-leb, lt-leb, eqb-true, eq-eqb, not-false}
-use Rattle.bit_rows.specs.Bits.{sum}
-use Rattle.bit_rows.proofs.Tests.{and-both, or-neither}
+use Rattle.bits.specs.Bits.{sum}
+use Rattle.bits.proofs.Tests.{and-both, or-neither}
 use Rattle.model.specs.Lists.{any, Within}
 use Rattle.model.specs.Outcome.{Outcome, answered, refuse}
 use Rattle.model.specs.Format.{Library, Sizes, sizesOf, withinLimits, encode, archiveOf}

@@ -8,14 +8,14 @@ use lib.ListN.{length, getD, take, drop, length-map, length-drop}
 use lib.Seq.{take-all, take-add, drop-drop, length-take-le, getD-drop}
 use lib.Dec.{leb, ltb, eqb}
 use borrow.Author.Tests.{eqb-true, not-false}
-use Rattle.bit_rows.specs.Sequences.{all, upFrom, below}
-use Rattle.bit_rows.specs.Bits.{concat, sum, bitsOf, pack, littleEndian, unusedClear, numberAt, samplesOf, samplesRight, sampleCount, rowBytes}
-use Rattle.bit_rows.proofs.Tests.{and-both}
-use Rattle.bit_rows.proofs.Tally.{all-upFrom-at, length-upFrom}
-use Rattle.bit_rows.proofs.Chunks.{concat-chunks, concat-below}
-use Rattle.bit_rows.proofs.Bits.{length-bitsOf, getD-bitsOf, bitAt-lt}
-use Rattle.bit_rows.proofs.Pack.{pack-bitsOf}
-use Rattle.bit_rows.proofs.LittleEndian.{little-numberAt, numbers-at, samples-are}
+use Rattle.bits.specs.Sequences.{all, upFrom, below}
+use Rattle.bits.specs.Bits.{concat, sum, bitsOf, pack, littleEndian, unusedClear, numberAt, samplesOf, samplesRight, sampleCount, rowBytes}
+use Rattle.bits.proofs.Tests.{and-both}
+use Rattle.bits.proofs.Tally.{all-upFrom-at, length-upFrom}
+use Rattle.bits.proofs.Chunks.{concat-chunks, concat-below}
+use Rattle.bits.proofs.Bits.{length-bitsOf, getD-bitsOf, bitAt-lt}
+use Rattle.bits.proofs.Pack.{pack-bitsOf}
+use Rattle.bits.proofs.LittleEndian.{little-numberAt, numbers-at, samples-are}
 use Rattle.model.specs.Lists.{any, Within}
 use Rattle.model.specs.Outcome.{Outcome, answered, refuse}
 use Rattle.model.specs.Rows.{row, decode}

@@ -6,7 +6,7 @@ use mathlib.Core.List.{List, [], _∷_, map}
 use mathlib.Core.Bool.{Bool, cond, _&&_, _||_}
 use lib.ListN.{length, take}
 use lib.Dec.{leb, ltb, eqb}
-use Rattle.bit_rows.specs.Sequences.{tally, below}
+use Rattle.bits.specs.Sequences.{tally, below}
 use Rattle.model.specs.Lists.{keep}
 use Rattle.model.specs.Queries.{Pair}
 use Rattle.model.specs.TopK.{Node, node, start, innerNodes, ranking, last, Answer, done, spent}

@@ -10,8 +10,8 @@ use lib.ListN.{length, take, length-take}
 use lib.Seq.{take-length}
 use lib.Dec.{leb}
 use borrow.Author.Tests.{leb-true, le-leb}
-use Rattle.bit_rows.specs.Sequences.{tally}
-use Rattle.bit_rows.proofs.Tests.{look}
+use Rattle.bits.specs.Sequences.{tally}
+use Rattle.bits.proofs.Tests.{look}
 use Rattle.model.specs.Lists.{any}
 use Rattle.model.specs.Queries.{Pair}
 use Rattle.model.specs.TopK.{Answer, done, spent, pairsOf}

@@ -9,9 +9,9 @@ use mathlib.Core.Bool.{Bool, true, false, not, cond, _&&_, _||_}
 use lib.ListN.{length, take}
 use lib.Dec.{ltb, leb, eqb}
 use borrow.Author.Tests.{ltb-true, ltb-false, lt-ltb, le-ltb, eqb-true, eqb-false, eq-eqb, ne-eqb}
-use Rattle.bit_rows.specs.Sequences.{bit, below, occurrences}
-use Rattle.bit_rows.proofs.Tests.{look, eqb-swap}
-use Rattle.bit_rows.proofs.Tally.{tally-same, tally-sum, tally-none}
+use Rattle.bits.specs.Sequences.{bit, below, occurrences}
+use Rattle.bits.proofs.Tests.{look, eqb-swap}
+use Rattle.bits.proofs.Tally.{tally-same, tally-sum, tally-none}
 use Rattle.model.specs.Lists.{keep, Within, Every}
 use Rattle.model.specs.Queries.{Pair, pairOf, present, listing}
 use Rattle.model.specs.TopK.{Node, node, countIn, innerNodes, ranking, fullList, needed, needOf, last, need, covered, done, spent, topK}

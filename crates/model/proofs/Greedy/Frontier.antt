@@ -7,9 +7,9 @@ use mathlib.Core.List.{List, [], _∷_, _++_}
 use mathlib.Core.Bool.{Bool, true, false, not, cond}
 use lib.Dec.{eqb}
 use borrow.Author.Tests.{eqb-false, not-true}
-use Rattle.bit_rows.specs.Sequences.{bit, tally}
-use Rattle.bit_rows.proofs.Tests.{look}
-use Rattle.bit_rows.proofs.Tally.{tally-append, tally-same}
+use Rattle.bits.specs.Sequences.{bit, tally}
+use Rattle.bits.proofs.Tests.{look}
+use Rattle.bits.proofs.Tally.{tally-append, tally-same}
 use Rattle.model.specs.TopK.{Node, node, start}
 use Rattle.model.specs.Search.{prior}
 use Rattle.model.specs.Lists.{Every, Sorted}

@@ -7,7 +7,7 @@ use mathlib.Core.List.{List, [], _∷_, map}
 use mathlib.Core.Bool.{Bool, true, false, cond}
 use lib.ListN.{length, take, length-take, length-map}
 use lib.Dec.{leb, leb·zero, leb·suc-zero, leb·suc-suc}
-use Rattle.bit_rows.specs.Sequences.{tally}
+use Rattle.bits.specs.Sequences.{tally}
 use Rattle.model.specs.Lists.{any}
 use Rattle.model.specs.Queries.{Pair}
 use Rattle.model.specs.TopK.{Node, node, Answer, done, spent}

@@ -8,10 +8,10 @@ use mathlib.Core.List.{List, [], _∷_, _++_, map}
 use mathlib.Core.Bool.{Bool, true, false, not, _&&_, _||_, true≢false}
 use lib.ListN.{take}
 use lib.Dec.{leb, ltb}
-use Rattle.bit_rows.specs.Sequences.{bit, tally, upFrom, below}
-use Rattle.bit_rows.specs.Bits.{concat}
-use Rattle.bit_rows.proofs.Tests.{look, eqb-swap}
-use Rattle.bit_rows.proofs.Tally.{tally-le, tally-same, tally-append, upFrom-append}
+use Rattle.bits.specs.Sequences.{bit, tally, upFrom, below}
+use Rattle.bits.specs.Bits.{concat}
+use Rattle.bits.proofs.Tests.{look, eqb-swap}
+use Rattle.bits.proofs.Tally.{tally-le, tally-same, tally-append, upFrom-append}
 use Rattle.model.specs.Queries.{Pair}
 use Rattle.model.specs.TopK.{Node, node, start, innerNodes, last}
 use Rattle.model.specs.Lists.{Every, Sorted}

@@ -9,9 +9,9 @@ use mathlib.Core.Bool.{Bool, true, false, _&&_}
 use lib.ListN.{length, length-append}
 use lib.Dec.{eqb}
 use borrow.Author.Tests.{eqb-true, eq-eqb, ne-eqb}
-use Rattle.bit_rows.specs.Sequences.{bit, tally, upFrom, below}
-use Rattle.bit_rows.proofs.Tests.{look, or-cases, or-neither}
-use Rattle.bit_rows.proofs.Tally.{tally-append, tally-same, upFrom-append}
+use Rattle.bits.specs.Sequences.{bit, tally, upFrom, below}
+use Rattle.bits.proofs.Tests.{look, or-cases, or-neither}
+use Rattle.bits.proofs.Tally.{tally-append, tally-same, upFrom-append}
 use Rattle.model.specs.TopK.{Node, node, start}
 use Rattle.model.specs.Lists.{Every}
 use Rattle.model.specs.Frontier.{nodes, allUnder, place, aheadNode, under}

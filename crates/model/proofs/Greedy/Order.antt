@@ -6,8 +6,8 @@ use mathlib.Core.Logic.{inl, inr}
 use mathlib.Core.List.{List, [], _∷_, map}
 use mathlib.Core.Bool.{Bool, true, false}
 use lib.ListN.{take}
-use Rattle.bit_rows.specs.Sequences.{tally, below}
-use Rattle.bit_rows.proofs.Tally.{tally-map, tally-le-length}
+use Rattle.bits.specs.Sequences.{tally, below}
+use Rattle.bits.proofs.Tally.{tally-map, tally-le-length}
 use Rattle.model.specs.Lists.{keep, Sorted}
 use Rattle.model.specs.Queries.{Pair}
 use Rattle.model.specs.TopK.{Node, node, aheadPair}

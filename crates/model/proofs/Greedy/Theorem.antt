@@ -7,7 +7,7 @@ use mathlib.Core.Bool.{Bool, true, false, not, cond}
 use lib.ListN.{length, take, length-take}
 use lib.Seq.{take-take}
 use lib.Dec.{leb}
-use Rattle.bit_rows.specs.Sequences.{tally}
+use Rattle.bits.specs.Sequences.{tally}
 use Rattle.model.specs.Lists.{any, Within}
 use Rattle.model.specs.Queries.{Pair}
 use Rattle.model.specs.TopK.{Node, node, countIn, fullList, need, covered, done, spent, topK, pairsOf}

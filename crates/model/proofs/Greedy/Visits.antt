@@ -5,9 +5,9 @@ use mathlib.Core.Path.{_≡_, refl}
 use mathlib.Core.List.{List, [], _∷_}
 use mathlib.Core.Bool.{Bool, true, not}
 use lib.ListN.{length}
-use Rattle.bit_rows.specs.Sequences.{tally}
-use Rattle.bit_rows.proofs.Tests.{and-both, both-and}
-use Rattle.bit_rows.proofs.Tally.{tally-append, tally-le, tally-true}
+use Rattle.bits.specs.Sequences.{tally}
+use Rattle.bits.proofs.Tests.{and-both, both-and}
+use Rattle.bits.proofs.Tally.{tally-append, tally-le, tally-true}
 use Rattle.model.specs.TopK.{Node, node}
 use Rattle.model.specs.Lists.{Every, Sorted}
 use Rattle.model.specs.Frontier.{nodes, allUnder, place, aheadNode, Ready}

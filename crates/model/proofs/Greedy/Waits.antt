@@ -8,9 +8,9 @@ use mathlib.Core.Logic.{inl, inr}
 use lib.ListN.{length, length-map}
 use lib.Dec.{eqb, ltb}
 use borrow.Author.Tests.{lt-ltb, eq-eqb}
-use Rattle.bit_rows.specs.Sequences.{tally, below}
-use Rattle.bit_rows.proofs.Tally.{tally-append, tally-le-length, length-upFrom, tally-map}
-use Rattle.bit_rows.proofs.Tests.{or-left, or-right, both-and}
+use Rattle.bits.specs.Sequences.{tally, below}
+use Rattle.bits.proofs.Tally.{tally-append, tally-le-length, length-upFrom, tally-map}
+use Rattle.bits.proofs.Tests.{or-left, or-right, both-and}
 use Rattle.model.specs.Lists.{Within, Every}
 use Rattle.model.specs.TopK.{Node, node, countIn, start}
 use Rattle.model.specs.Search.{Waiting, wait, waitHalves, moveOf, begin, occupied, prior}

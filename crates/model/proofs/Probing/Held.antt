@@ -9,9 +9,9 @@ use lib.ListN.{length, getD, take, length-take, length-map}
 use lib.Seq.{take-nil}
 use lib.Dec.{ltb, eqb}
 use borrow.Author.Tests.{lt-ltb, le-ltb, ltb-true, eqb-true, eqb-false, ne-eqb, eq-eqb}
-use Rattle.bit_rows.specs.Sequences.{bit, tally, upFrom, below, occurrences}
-use Rattle.bit_rows.proofs.Tests.{look}
-use Rattle.bit_rows.proofs.Tally.{tally-append, tally-sum, tally-none, tally-le-length, tally-map, length-upFrom}
+use Rattle.bits.specs.Sequences.{bit, tally, upFrom, below, occurrences}
+use Rattle.bits.proofs.Tests.{look}
+use Rattle.bits.proofs.Tally.{tally-append, tally-sum, tally-none, tally-le-length, tally-map, length-upFrom}
 use Rattle.model.specs.Lists.{keep, Every, Sorted}
 use Rattle.model.specs.Queries.{Pair, pairOf, present, listing}
 use Rattle.model.specs.TopK.{ranking, fullList, aheadPair}

@@ -9,9 +9,9 @@ use mathlib.Core.Bool.{Bool, true, false, true≢false}
 use lib.ListN.{length}
 use lib.Dec.{ltb}
 use borrow.Author.Tests.{lt-ltb}
-use Rattle.bit_rows.specs.Sequences.{tally, occurrences}
-use Rattle.bit_rows.proofs.Tests.{le-or-lt, Cmp, less, same, more, cmp}
-use Rattle.bit_rows.proofs.Tally.{tally-le-length}
+use Rattle.bits.specs.Sequences.{tally, occurrences}
+use Rattle.bits.proofs.Tests.{le-or-lt, Cmp, less, same, more, cmp}
+use Rattle.bits.proofs.Tally.{tally-le-length}
 use Rattle.model.specs.Lists.{Within}
 use Rattle.model.specs.Queries.{quantile}
 use Rattle.model.specs.Probing.{Probed}

@@ -9,7 +9,7 @@ use mathlib.Core.Bool.{Bool, true, false, not}
 use lib.ListN.{length, getD}
 use lib.Dec.{leb, ltb, eqb}
 use borrow.Author.Tests.{ltb-false, leb-true, eqb-true, eq-eqb, not-false}
-use Rattle.bit_rows.proofs.Tests.{look, or-left, or-right, and-both, and-cases}
+use Rattle.bits.proofs.Tests.{look, or-left, or-right, and-both, and-cases}
 use Rattle.model.specs.Lists.{Within}
 use Rattle.model.specs.Queries.{quantile, Pair, pairOf}
 use Rattle.model.specs.TopK.{fullList}

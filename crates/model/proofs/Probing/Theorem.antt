@@ -10,7 +10,7 @@ use lib.ListN.{length}
 use lib.Dec.{leb, ltb}
 use lib.Pow.{pow-pos}
 use borrow.Author.Tests.{ltb-true, ltb-false, leb-false}
-use Rattle.bit_rows.proofs.Tests.{look}
+use Rattle.bits.proofs.Tests.{look}
 use Rattle.model.specs.Lists.{Within}
 use Rattle.model.specs.TopK.{fullList}
 use Rattle.model.specs.Probing.{State, unseen, probe, sweep, round, settled, rounds, exponentTo, probing, Swept}

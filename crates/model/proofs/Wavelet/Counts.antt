@@ -5,8 +5,8 @@ use mathlib.Core.List.{List}
 use native.Mathlib.Omega.{arith}
 use lib.ListN.{length, drop, length-take}
 use lib.Dec.{ltb, eqb}
-use Rattle.bit_rows.specs.Sequences.{rank}
-use Rattle.bit_rows.proofs.Tally.{tally-le-length, tally-take-le}
+use Rattle.bits.specs.Sequences.{rank}
+use Rattle.bits.proofs.Tally.{tally-le-length, tally-take-le}
 use Rattle.model.specs.Lists.{part}
 use Rattle.model.specs.Rows.{row}
 use Rattle.model.specs.TopK.{node, countIn}

@@ -7,8 +7,8 @@ use native.Mathlib.Omega.{arith}
 use lib.ListN.{length, take, drop, replicate, length-replicate, length-drop, take-append-drop}
 use lib.Seq.{length-take-le, take-at, drop-at}
 use lib.Dec.{leb, ltb, eqb}
-use Rattle.bit_rows.specs.Sequences.{occurrences}
-use Rattle.bit_rows.proofs.Tally.{tally-le-length}
+use Rattle.bits.specs.Sequences.{occurrences}
+use Rattle.bits.proofs.Tally.{tally-le-length}
 use Rattle.model.specs.Lists.{keep, Within}
 use Rattle.model.specs.Rows.{row, interleave, decode}
 use Rattle.model.proofs.Lists.{within-take, within-drop}

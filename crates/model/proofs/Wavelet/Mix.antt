@@ -8,8 +8,8 @@ use native.Mathlib.Decide.{decLe}
 use lib.ListN.{length}
 use lib.Dec.{leb, ltb, eqb}
 use borrow.Author.Tests.{lt-ltb, le-ltb, le-leb, lt-leb}
-use Rattle.bit_rows.specs.Sequences.{occurrences}
-use Rattle.bit_rows.proofs.Tally.{tally-le-length}
+use Rattle.bits.specs.Sequences.{occurrences}
+use Rattle.bits.proofs.Tally.{tally-le-length}
 use Rattle.model.specs.Lists.{keep, Within}
 use Rattle.model.specs.Rows.{interleave}
 

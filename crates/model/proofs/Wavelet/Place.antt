@@ -8,7 +8,7 @@ use native.Mathlib.Omega.{arith}
 use lib.ListN.{length, getD}
 use lib.Dec.{eqb}
 use borrow.Author.Tests.{ne-eqb, eqb-true, eqb-false}
-use Rattle.bit_rows.specs.Sequences.{bit, occurrences, rank, select}
+use Rattle.bits.specs.Sequences.{bit, occurrences, rank, select}
 use Rattle.model.specs.Lists.{Within}
 
 later : (t : Bool) (j a rest : ℕ) → (t ≡ true → j ≡ 1 → ⊥) → cond (t && eqb j 1) a rest ≡ rest

@@ -9,9 +9,9 @@ use lib.ListN.{length}
 use lib.Pow.{pow-pos}
 use lib.Dec.{ltb, eqb}
 use borrow.Author.Tests.{lt-ltb, le-ltb}
-use Rattle.bit_rows.specs.Sequences.{tally, occurrences}
-use Rattle.bit_rows.proofs.Tests.{eqb-swap}
-use Rattle.bit_rows.proofs.Tally.{tally-le-length, tally-same}
+use Rattle.bits.specs.Sequences.{tally, occurrences}
+use Rattle.bits.proofs.Tests.{eqb-swap}
+use Rattle.bits.proofs.Tally.{tally-le-length, tally-same}
 use Rattle.model.specs.Lists.{part}
 use Rattle.model.specs.Rows.{row}
 use Rattle.model.specs.Queries.{quantile}

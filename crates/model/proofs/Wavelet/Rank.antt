@@ -5,9 +5,9 @@ use mathlib.Core.List.{List}
 use native.Mathlib.Omega.{arith}
 use lib.ListN.{length, take}
 use lib.Dec.{eqb}
-use Rattle.bit_rows.specs.Sequences.{tally, occurrences, rank}
-use Rattle.bit_rows.proofs.Tests.{eqb-iff}
-use Rattle.bit_rows.proofs.Tally.{tally-same}
+use Rattle.bits.specs.Sequences.{tally, occurrences, rank}
+use Rattle.bits.proofs.Tests.{eqb-iff}
+use Rattle.bits.proofs.Tally.{tally-same}
 use Rattle.model.specs.Walk.{pos, key, rankFrom, rankWalk}
 use Rattle.model.proofs.Wavelet.Rows.{key-leaf, RowsOf, root-start, root-place, root-end, row-left, row-right, row-start, row-middle, row-end}
 use Rattle.model.proofs.Wavelet.Descend.{FromLow, FromHigh, descend}

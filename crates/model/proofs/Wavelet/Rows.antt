@@ -9,8 +9,8 @@ use lib.Seq.{length-take-le}
 use lib.Pow.{shr-lt}
 use lib.Dec.{ltb, eqb}
 use borrow.Author.Tests.{lt-ltb, le-ltb, eq-eqb}
-use Rattle.bit_rows.specs.Sequences.{tally, rank}
-use Rattle.bit_rows.proofs.Tally.{tally-none}
+use Rattle.bits.specs.Sequences.{tally, rank}
+use Rattle.bits.proofs.Tally.{tally-none}
 use Rattle.model.specs.Lists.{Within}
 use Rattle.model.specs.Rows.{row, arranged}
 use Rattle.model.specs.Walk.{zerosIn, left, right, posOf, pos, key}

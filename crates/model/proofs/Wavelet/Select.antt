@@ -6,8 +6,8 @@ use native.Mathlib.Nat.{le-of-lt}
 use native.Mathlib.Omega.{arith}
 use lib.ListN.{length, getD, take}
 use lib.Dec.{eqb}
-use Rattle.bit_rows.specs.Sequences.{tally, occurrences, rank, select}
-use Rattle.bit_rows.proofs.Sequences.{select-eq}
+use Rattle.bits.specs.Sequences.{tally, occurrences, rank, select}
+use Rattle.bits.proofs.Sequences.{select-eq}
 use Rattle.model.specs.Rows.{row}
 use Rattle.model.specs.Walk.{pos, key, selectFrom, selectWalk}
 use Rattle.model.proofs.Lists.{within-at}

@@ -9,9 +9,9 @@ use native.Mathlib.Decide.{decLe}
 use lib.ListN.{length, getD}
 use lib.Dec.{leb, ltb, eqb}
 use borrow.Author.Tests.{le-leb, lt-leb, lt-ltb, le-ltb, ltb-true}
-use Rattle.bit_rows.specs.Sequences.{bit, tally, occurrences}
-use Rattle.bit_rows.proofs.Tests.{bit-le, bit-ltb-suc, eqb-swap, Cmp, less, same, more, cmp}
-use Rattle.bit_rows.proofs.Tally.{tally-sum, tally-le, tally-true}
+use Rattle.bits.specs.Sequences.{bit, tally, occurrences}
+use Rattle.bits.proofs.Tests.{bit-le, bit-ltb-suc, eqb-swap, Cmp, less, same, more, cmp}
+use Rattle.bits.proofs.Tally.{tally-sum, tally-le, tally-true}
 use Rattle.model.specs.Lists.{insertNumber, sorted}
 use Rattle.model.specs.Queries.{quantile}
 

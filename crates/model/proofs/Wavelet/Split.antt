@@ -9,7 +9,7 @@ use native.Mathlib.Decide.{ℕ-discrete}
 use lib.Pow.{pow-pos, pow-add}
 use lib.Dec.{leb, ltb, eqb}
 use borrow.Author.Tests.{lt-ltb, le-leb, eq-eqb, ne-eqb}
-use Rattle.bit_rows.proofs.Tests.{eqb-iff}
+use Rattle.bits.proofs.Tests.{eqb-iff}
 use Rattle.model.specs.Lists.{keep, Within}
 use Rattle.model.specs.Rows.{row}
 use Rattle.model.specs.Walk.{key}

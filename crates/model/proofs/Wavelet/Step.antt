@@ -10,9 +10,9 @@ use lib.ListN.{length, getD, take}
 use lib.Seq.{take-length}
 use lib.Dec.{ltb, eqb}
 use borrow.Author.Tests.{eq-eqb, ne-eqb}
-use Rattle.bit_rows.specs.Sequences.{bit, tally, occurrences, rank}
-use Rattle.bit_rows.proofs.Tests.{eqb-iff, ltb-iff}
-use Rattle.bit_rows.proofs.Tally.{tally-sum, tally-same, tally-append, tally-map}
+use Rattle.bits.specs.Sequences.{bit, tally, occurrences, rank}
+use Rattle.bits.proofs.Tests.{eqb-iff, ltb-iff}
+use Rattle.bits.proofs.Tally.{tally-sum, tally-same, tally-append, tally-map}
 use Rattle.model.specs.Lists.{keep}
 use Rattle.model.specs.Walk.{zerosIn, left, right, posOf}
 use Rattle.model.proofs.Lists.{map-append, map-take, getD-map, tally-keep}

@@ -10,8 +10,8 @@ use lib.ListN.{length, getD, drop, set, length-take}
 use lib.Seq.{drop-set-lt}
 use lib.Dec.{leb, ltb}
 use borrow.Author.Tests.{ltb-true, eq-eqb, ne-eqb, lt-ltb, le-ltb, lt-leb, le-leb}
-use Rattle.bit_rows.specs.Sequences.{occurrences}
-use Rattle.bit_rows.proofs.Tests.{and-both, le-or-lt}
+use Rattle.bits.specs.Sequences.{occurrences}
+use Rattle.bits.proofs.Tests.{and-both, le-or-lt}
 use Rattle.model.specs.Lists.{overwrite}
 use Rattle.model.specs.Queries.{quantile, Pair, flat, pairOf, pair, pairsIn}
 use Rattle.model.specs.TopK.{insertPair, fullList}

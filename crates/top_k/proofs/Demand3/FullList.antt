@@ -9,9 +9,9 @@ use mathlib.Core.Bool.{Bool, true, false, not, cond, _&&_, _||_}
 use lib.ListN.{length, getD, take, drop, length-take, take-append-drop}
 use lib.Dec.{leb, ltb, eqb}
 use borrow.Author.Tests.{leb-false, leb-true, eqb-true, eq-eqb, lt-ltb}
-use Rattle.bit_rows.specs.Sequences.{bit, tally, below, occurrences}
-use Rattle.bit_rows.proofs.Tests.{look, and-both, both-and, le-or-lt}
-use Rattle.bit_rows.proofs.Tally.{tally-append, tally-le, tally-none, tally-map, tally-take-le, length-upFrom, getD-upFrom}
+use Rattle.bits.specs.Sequences.{bit, tally, below, occurrences}
+use Rattle.bits.proofs.Tests.{look, and-both, both-and, le-or-lt}
+use Rattle.bits.proofs.Tally.{tally-append, tally-le, tally-none, tally-map, tally-take-le, length-upFrom, getD-upFrom}
 use Rattle.model.specs.Queries.{Pair, pairOf, present, listing}
 use Rattle.model.specs.TopK.{start, countIn, innerNodes, ranking, fullList, last, need, covered, aheadPair}
 use Rattle.model.proofs.Lists.{tally-keep, tally-take-lt}

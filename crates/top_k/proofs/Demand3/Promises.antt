@@ -8,7 +8,7 @@ use lib.ListN.{length, take, drop, replicate}
 use lib.Seq.{take-append-seam}
 use lib.Dec.{leb, ltb}
 use borrow.Author.Tests.{le-leb, lt-leb}
-use Rattle.bit_rows.specs.Sequences.{tally}
+use Rattle.bits.specs.Sequences.{tally}
 use Rattle.model.specs.Lists.{part, overwrite, Within}
 use Rattle.model.specs.Outcome.{Outcome, answered, refused, refuse, andThen}
 use Rattle.model.specs.Rows.{height}

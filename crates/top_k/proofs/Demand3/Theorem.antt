@@ -9,9 +9,9 @@ use lib.ListN.{length}
 use lib.Seq.{length-take-le}
 use lib.Dec.{eqb}
 use borrow.Author.Tests.{le-ltb, lt-leb}
-use Rattle.bit_rows.specs.Sequences.{bit, tally, below, occurrences}
-use Rattle.bit_rows.proofs.Tests.{look, and-both, le-or-lt, bit-eq, bit-ne, eqb-swap}
-use Rattle.bit_rows.proofs.Tally.{tally-map, tally-le}
+use Rattle.bits.specs.Sequences.{bit, tally, below, occurrences}
+use Rattle.bits.proofs.Tests.{look, and-both, le-or-lt, bit-eq, bit-ne, eqb-swap}
+use Rattle.bits.proofs.Tally.{tally-map, tally-le}
 use Rattle.model.specs.Lists.{part, overwrite, Within, Every, Sorted}
 use Rattle.model.specs.Outcome.{Outcome, answered, refuse, andThen}
 use Rattle.model.specs.Rows.{height}

@@ -2,7 +2,7 @@ use mathlib.Core.Path.{_≡_, sym, ap, _∙_}
 use mathlib.Core.Bool.{true, false, not}
 use lib.Dec.{leb}
 use borrow.Author.Tests.{not-true, not-false}
-use Rattle.bit_rows.specs.Sequences.{all, below}
+use Rattle.bits.specs.Sequences.{all, below}
 use Rattle.model.specs.Lists.{any}
 use Rattle.wavelet.specs.Levels.{entriesIn}
 use Rattle.archive.specs.declared.Opening.the-variants.{Accepted}

@@ -4,7 +4,7 @@ use lib.ListN.{length}
 use lib.Dec.{eqb}
 use borrow.Author.Needs.{needs}
 use borrow.Author.Tests.{not-true, not-false, eq-eqb, ne-eqb}
-use Rattle.bit_rows.specs.Sequences.{below}
+use Rattle.bits.specs.Sequences.{below}
 use Rattle.model.specs.Format.{archiveLength}
 use Rattle.model.specs.Opening.{pairsHold, tableHolds}
 use Rattle.archive.specs.Layout.{sizesIn}

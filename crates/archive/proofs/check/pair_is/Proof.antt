@@ -3,7 +3,7 @@ use Prim.Native.Nat.{ℕ}
 use lib.Dec.{eqb}
 use borrow.Author.Needs.{needs}
 use borrow.Author.Tests.{eq-eqb, ne-eqb}
-use Rattle.bit_rows.specs.Bits.{numberAt}
+use Rattle.bits.specs.Bits.{numberAt}
 use Rattle.archive.proofs.check.pair_is.Statement.{statement}
 use Rattle.archive.proofs.check.pair_is.Tie as tie
 

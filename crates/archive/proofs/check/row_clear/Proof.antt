@@ -4,7 +4,7 @@ use native.Mathlib.Nat.{add-sub-cancel-left}
 use native.Mathlib.Omega.{arith}
 use lib.ListN.{take, drop}
 use borrow.Author.Needs.{needs}
-use Rattle.bit_rows.specs.Bits.{rowBytes, unusedClear}
+use Rattle.bits.specs.Bits.{rowBytes, unusedClear}
 use Rattle.archive.proofs.Parts.{row-end}
 use Rattle.archive.proofs.check.row_clear.Statement.{statement}
 use Rattle.archive.proofs.check.row_clear.Tie as tie

@@ -4,7 +4,7 @@ use native.Mathlib.Nat.{add-sub-cancel-left}
 use native.Mathlib.Omega.{arith}
 use lib.ListN.{take, drop}
 use borrow.Author.Needs.{needs}
-use Rattle.bit_rows.specs.Bits.{sampleCount, rowBytes, samplesRight}
+use Rattle.bits.specs.Bits.{sampleCount, rowBytes, samplesRight}
 use Rattle.archive.proofs.Parts.{samples-end, row-end}
 use Rattle.archive.proofs.check.row_sampled.Statement.{statement}
 use Rattle.archive.proofs.check.row_sampled.Tie as tie

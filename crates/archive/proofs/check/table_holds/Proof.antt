@@ -3,7 +3,7 @@ use Prim.Native.Nat.{ℕ, _+_, _-_, _*_, _≤_}
 use native.Mathlib.Omega.{arith}
 use borrow.Author.Needs.{needs}
 use borrow.Author.Tests.{eq-eqb, ne-eqb}
-use Rattle.bit_rows.specs.Sequences.{upFrom, below}
+use Rattle.bits.specs.Sequences.{upFrom, below}
 use Rattle.model.specs.Opening.{startAt, lengthAt, tableHolds}
 use Rattle.archive.proofs.Parts.{table-next, table-end}
 use Rattle.archive.proofs.check.table_holds.Statement.{statement}

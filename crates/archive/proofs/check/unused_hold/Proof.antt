@@ -4,7 +4,7 @@ use mathlib.Core.Bool.{true, false}
 use native.Mathlib.Omega.{arith}
 use borrow.Author.Needs.{needs}
 use borrow.Author.Tests.{not-true, not-false}
-use Rattle.bit_rows.specs.Sequences.{all, upFrom, below}
+use Rattle.bits.specs.Sequences.{all, upFrom, below}
 use Rattle.archive.specs.Opening.{clearAt}
 use Rattle.archive.proofs.Parts.{all-next, all-end}
 use Rattle.archive.proofs.check.unused_hold.Statement.{statement}

@@ -2,10 +2,10 @@ use mathlib.Core.Path.{_≡_, sym}
 use Prim.Native.Nat.{_*_, _-_, _≤_, _<_}
 use native.Mathlib.Omega.{arith}
 use borrow.Author.Needs.{needs}
-use Rattle.bit_rows.specs.Bits.{sampleCount, numberAt}
-use Rattle.bit_rows.specs.Rows.{countBelow}
-use Rattle.bit_rows.proofs.Bits.{count-zero}
-use Rattle.bit_rows.proofs.Samples.{RightTo, right-none, right-more, samples-all, samples-not}
+use Rattle.bits.specs.Bits.{sampleCount, numberAt}
+use Rattle.bits.specs.Rows.{countBelow}
+use Rattle.bits.proofs.Bits.{count-zero}
+use Rattle.bits.proofs.Samples.{RightTo, right-none, right-more, samples-all, samples-not}
 use Rattle.bit_rows.proofs.check.samples_right.Statement.{statement}
 use Rattle.bit_rows.proofs.check.samples_right.Tie as tie
 

@@ -1,7 +1,7 @@
 use mathlib.Core.Path.{sym}
 use Prim.Native.Nat.{_/_}
 use borrow.Author.Needs.{needs}
-use Rattle.bit_rows.proofs.Stores.{unused-none, unused-byte}
+use Rattle.bits.proofs.Stores.{unused-none, unused-byte}
 use Rattle.bit_rows.proofs.check.unused_clear.Statement.{statement}
 use Rattle.bit_rows.proofs.check.unused_clear.Tie as tie
 

@@ -4,10 +4,10 @@ use Prim.Native.Nat.{ℕ, _*_, _-_, _≤_, _<_}
 use native.Mathlib.Omega.{arith}
 use lib.ListN.{length, drop}
 use borrow.Author.Needs.{needs}
-use Rattle.bit_rows.specs.Bits.{sampleCount, bitsOf}
-use Rattle.bit_rows.specs.Rows.{countBelow, withNumber}
-use Rattle.bit_rows.proofs.Bits.{count-zero, rank-bitsOf}
-use Rattle.bit_rows.proofs.Samples.{samplesTo, samplesTo-none, samplesTo-all, samplesTo-store}
+use Rattle.bits.specs.Bits.{sampleCount, bitsOf}
+use Rattle.bits.specs.Rows.{countBelow, withNumber}
+use Rattle.bits.proofs.Bits.{count-zero, rank-bitsOf}
+use Rattle.bits.proofs.Samples.{samplesTo, samplesTo-none, samplesTo-all, samplesTo-store}
 use Rattle.bit_rows.proofs.write.fill_samples.Statement.{statement}
 use Rattle.bit_rows.proofs.write.fill_samples.Tie as tie
 

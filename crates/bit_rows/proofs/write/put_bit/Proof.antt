@@ -2,8 +2,8 @@ use Prim.Native.Nat.{_/_, _%_}
 use native.Mathlib.Omega.{arith}
 use lib.ListN.{getD}
 use borrow.Author.Needs.{needs}
-use Rattle.bit_rows.proofs.Bits.{shl-bit}
-use Rattle.bit_rows.proofs.Stores.{stored-fits}
+use Rattle.bits.proofs.Bits.{shl-bit}
+use Rattle.bits.proofs.Stores.{stored-fits}
 use Rattle.bit_rows.proofs.write.put_bit.Statement.{statement}
 use Rattle.bit_rows.proofs.write.put_bit.Tie as tie
 

@@ -1,8 +1,8 @@
 use borrow.Author.Needs.{needs}
 use mathlib.Core.Path.{sym, ap}
 use mathlib.Core.List.{[], _∷_}
-use Rattle.archive.specs.declared.Range.{Range}
-use Rattle.archive.specs.Ranges.{boundsIn}
+use Rattle.archive_ranges.specs.declared.Range.{Range}
+use Rattle.archive_ranges.specs.Ranges.{boundsIn}
 use Rattle.ffi.specs.Left.{given, ends}
 use Rattle.ffi.proofs.give.ends.Statement.{statement}
 use Rattle.ffi.proofs.give.ends.Tie as tie

@@ -1,8 +1,8 @@
 use borrow.Author.Needs.{needs}
 use mathlib.Core.Path.{sym, ap}
 use mathlib.Core.List.{[], _∷_}
-use Rattle.queries.specs.declared.Answer.{Answer}
-use Rattle.queries.specs.Answers.{numberOf}
+use Rattle.answers.specs.declared.Answer.{Answer}
+use Rattle.answers.specs.Answers.{numberOf}
 use Rattle.ffi.specs.Left.{given, one}
 use Rattle.ffi.proofs.give.number.Statement.{statement}
 use Rattle.ffi.proofs.give.number.Tie as tie

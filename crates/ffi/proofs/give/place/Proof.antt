@@ -1,9 +1,9 @@
 use borrow.Author.Needs.{needs}
 use mathlib.Core.Path.{_≡_, sym, ap}
 use mathlib.Core.List.{[], _∷_}
-use Rattle.queries.specs.declared.Placed.{Placed}
-use Rattle.queries.specs.declared.Placed.the-variants.{Nothing}
-use Rattle.queries.specs.Answers.{placeOf}
+use Rattle.answers.specs.declared.Placed.{Placed}
+use Rattle.answers.specs.declared.Placed.the-variants.{Nothing}
+use Rattle.answers.specs.Answers.{placeOf}
 use Rattle.ffi.specs.Left.{given, placed}
 use Rattle.ffi.proofs.give.place.Statement.{statement}
 use Rattle.ffi.proofs.give.place.Tie as tie

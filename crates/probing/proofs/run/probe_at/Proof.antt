@@ -5,7 +5,7 @@ use mathlib.Core.Path.{_≡_, sym, ap, _∙_}
 use mathlib.Core.List.{List}
 use lib.ListN.{length}
 use borrow.Author.Needs.{needs}
-use Rattle.bit_rows.specs.Sequences.{occurrences}
+use Rattle.bits.specs.Sequences.{occurrences}
 use Rattle.model.specs.Queries.{quantile}
 use Rattle.wavelet.specs.declared.Counted.{Counted}
 use Rattle.search.specs.Searchable.{rangeOf}

@@ -3,8 +3,8 @@ use Prim.Native.Nat.{ℕ}
 use native.Mathlib.Omega.{arith}
 use mathlib.Core.Path.{ap, _∙_}
 use mathlib.Core.List.{List}
-use Rattle.bit_rows.specs.Sequences.{rank}
-use Rattle.bit_rows.proofs.Sequences.{rank-le}
+use Rattle.bits.specs.Sequences.{rank}
+use Rattle.bits.proofs.Sequences.{rank-le}
 use Rattle.model.specs.Opening.{contents}
 use Rattle.queries.proofs.entry.rank_in.Statement.{statement}
 use Rattle.queries.proofs.entry.rank_in.Tie as tie

@@ -3,7 +3,7 @@ use Prim.Native.Nat.{ℕ}
 use native.Mathlib.Omega.{arith}
 use mathlib.Core.Path.{ap, _∙_}
 use mathlib.Core.List.{List}
-use Rattle.bit_rows.specs.Sequences.{select, placeBelow}
+use Rattle.bits.specs.Sequences.{select, placeBelow}
 use Rattle.queries.proofs.entry.select_in.Statement.{statement}
 use Rattle.queries.proofs.entry.select_in.Tie as tie
 

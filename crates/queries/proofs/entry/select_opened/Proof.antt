@@ -2,10 +2,10 @@ use borrow.Author.Needs.{needs}
 use Prim.Native.Nat.{ℕ}
 use native.Mathlib.Omega.{arith}
 use mathlib.Core.Path.{_≡_, sym, ap, _∙_}
-use Rattle.bit_rows.specs.declared.Found.{Found}
-use Rattle.bit_rows.specs.declared.Found.the-variants.{At, Nothing}
-use Rattle.bit_rows.specs.Sequences.{select, placeBelow}
-use Rattle.bit_rows.specs.Rows.{foundOf}
+use Rattle.bit_select.specs.declared.Found.{Found}
+use Rattle.bit_select.specs.declared.Found.the-variants.{At, Nothing}
+use Rattle.bits.specs.Sequences.{select, placeBelow}
+use Rattle.bit_select.specs.Search.{foundOf}
 use Rattle.model.specs.Outcome.{answered}
 use Rattle.model.specs.Opening.{contents}
 use Rattle.archive.proofs.Opened.{fitting}

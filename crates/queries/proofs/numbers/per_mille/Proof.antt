@@ -4,7 +4,7 @@ use native.Mathlib.Omega.{arith}
 use native.Mathlib.Nat.{div-le-of-le-mul}
 use Prim.Native.Nat.{_*_, _≤_}
 use lib.Dec.{ltb, eqb}
-use Rattle.bit_rows.proofs.Tests.{or-right}
+use Rattle.bits.proofs.Tests.{or-right}
 use Rattle.queries.proofs.numbers.per_mille.Statement.{statement}
 use Rattle.queries.proofs.numbers.per_mille.Tie as tie
 

@@ -9,8 +9,8 @@ use Rattle.model.specs.Outcome.{answered}
 use Rattle.model.specs.Opening.{contents}
 use Rattle.model.proofs.Lists.{length-part}
 use Rattle.archive.proofs.Opened.{fitting, entries-size}
-use Rattle.archive.specs.declared.Range.the-variants.{Entries, Refused}
-use Rattle.archive.specs.Ranges.{Inside}
+use Rattle.archive_ranges.specs.declared.Range.the-variants.{Entries, Refused}
+use Rattle.archive_ranges.specs.Ranges.{Inside}
 use Rattle.queries.proofs.quantiles.quantile_of.Statement.{statement}
 use Rattle.queries.proofs.quantiles.quantile_of.Tie as tie
 

@@ -3,7 +3,7 @@ use mathlib.Core.Path.{ap, _∙_}
 use Rattle.model.specs.Outcome.{Outcome}
 use Rattle.model.specs.Opening.{contents}
 use Rattle.model.specs.Queries.{Bounds, ofEntries}
-use Rattle.archive.proofs.RangeEnds.{entry-bounds}
+use Rattle.archive_ranges.proofs.RangeEnds.{entry-bounds}
 use Rattle.queries.specs.Ranges.{quantileOf}
 use Rattle.queries.proofs.Results.{quantile-is}
 use Rattle.queries.proofs.quantiles.quantile_opened.Statement.{statement}

@@ -4,7 +4,7 @@ use mathlib.Core.List.{map}
 use native.Mathlib.Omega.{arith}
 use lib.Seq.{length-take-le}
 use borrow.Author.Needs.{needs}
-use Rattle.bit_rows.specs.Sequences.{below}
+use Rattle.bits.specs.Sequences.{below}
 use Rattle.model.specs.Opening.{lengthAt, contents}
 use Rattle.archive.proofs.Opened.{fitting, entries-are}
 use Rattle.reader.proofs.Contents.{overwritten, opened-readable, opened-table, lengths-are}

@@ -3,7 +3,7 @@ use mathlib.Core.Path.{_≡_, refl, ap, _∙_}
 use native.Mathlib.Omega.{arith}
 use lib.ListN.{length, length-set}
 use borrow.Author.Needs.{needs}
-use Rattle.bit_rows.specs.Bits.{numberAt}
+use Rattle.bits.specs.Bits.{numberAt}
 use Rattle.reader.proofs.Descending.{Read, read-more, read-all}
 use Rattle.reader.proofs.lists.read_lengths.Statement.{statement}
 use Rattle.reader.proofs.lists.read_lengths.Tie as tie

@@ -3,7 +3,7 @@ use mathlib.Core.Path.{_≡_, refl, sym, ap, _∙_}
 use native.Mathlib.Omega.{arith}
 use lib.ListN.{length, getD, length-set}
 use borrow.Author.Needs.{needs}
-use Rattle.bit_rows.specs.Bits.{bitAt}
+use Rattle.bits.specs.Bits.{bitAt}
 use Rattle.keys.proofs.Laws.{Kept, bump, kept-more}
 use Rattle.reader.proofs.Descending.{Front, Advanced, place-below, place-next, front-more}
 use Rattle.reader.proofs.rows.deepen.Statement.{statement}

@@ -3,7 +3,7 @@ use mathlib.Core.Path.{_∙_}
 use lib.ListN.{length}
 use Rattle.model.specs.Queries.{ofEntries}
 use Rattle.archive.proofs.Opened.{limits}
-use Rattle.archive.proofs.RangeEnds.{entry-bounds}
+use Rattle.archive_ranges.proofs.RangeEnds.{entry-bounds}
 use Rattle.top_k.specs.Asked.{Posed}
 use Rattle.top_k.proofs.Asking.{posed, probing-posed}
 use borrow.Author.Needs.{needs}

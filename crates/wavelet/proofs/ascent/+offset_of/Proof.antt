@@ -4,9 +4,9 @@ use native.Mathlib.Omega.{arith}
 use mathlib.Core.Path.{_≡_, refl, ap, _∙_}
 use mathlib.Core.List.{List}
 use lib.Dec.{eqb}
-use Rattle.bit_rows.specs.Rows.{foundOf}
-use Rattle.bit_rows.specs.Sequences.{place}
-use Rattle.bit_rows.specs.declared.Found.the-variants.{At, Nothing}
+use Rattle.bit_select.specs.Search.{foundOf}
+use Rattle.bits.specs.Sequences.{place}
+use Rattle.bit_select.specs.declared.Found.the-variants.{At, Nothing}
 use Rattle.model.proofs.Wavelet.Counts.{left-le}
 use Rattle.wavelet.specs.Levels.{levelOf}
 use Rattle.wavelet.specs.Places.{offsetFrom}

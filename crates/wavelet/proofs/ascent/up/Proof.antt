@@ -4,7 +4,7 @@ use Prim.Native.Nat.{ℕ, _+_, _-_}
 use native.Mathlib.Omega.{arith}
 use mathlib.Core.Path.{ap, _∙_}
 use mathlib.Core.List.{List}
-use Rattle.bit_rows.specs.Sequences.{rank, select}
+use Rattle.bits.specs.Sequences.{rank, select}
 use Rattle.wavelet.specs.Levels.{levelOf}
 use Rattle.wavelet.proofs.Places.{placed, select-inside, one-after, zero-after, zeros-before}
 use Rattle.wavelet.proofs.ascent.up.Statement.{statement}

@@ -4,8 +4,8 @@ use mathlib.Core.List.{List}
 use Prim.Native.Nat.{ℕ}
 use native.Mathlib.Omega.{arith}
 use lib.ListN.{getD}
-use Rattle.bit_rows.specs.Bits.{bitAt}
-use Rattle.bit_rows.proofs.Bits.{getD-bitsOf}
+use Rattle.bits.specs.Bits.{bitAt}
+use Rattle.bits.proofs.Bits.{getD-bitsOf}
 use Rattle.wavelet.specs.Levels.{rowIn}
 use Rattle.wavelet.proofs.Stored.{length-rowIn, level-is}
 use Rattle.wavelet.proofs.level.bit.Statement.{statement}

@@ -3,8 +3,8 @@ use mathlib.Core.Path.{_≡_, sym, ap, _∙_}
 use mathlib.Core.List.{List}
 use Prim.Native.Nat.{ℕ}
 use native.Mathlib.Omega.{arith}
-use Rattle.bit_rows.specs.Bits.{bitsOf}
-use Rattle.bit_rows.specs.Sequences.{rank}
+use Rattle.bits.specs.Bits.{bitsOf}
+use Rattle.bits.specs.Sequences.{rank}
 use Rattle.model.proofs.Wavelet.Counts.{ones-mono}
 use Rattle.wavelet.specs.Levels.{levelOf}
 use Rattle.wavelet.proofs.Stored.{sampled, level-is}

@@ -4,7 +4,7 @@ use Prim.Native.Nat.{ℕ, _+_, _*_}
 use native.Mathlib.Nat.{add-sub-cancel-left}
 use native.Mathlib.Omega.{arith}
 use lib.ListN.{take, drop}
-use Rattle.bit_rows.specs.Bits.{rowBytes}
+use Rattle.bits.specs.Bits.{rowBytes}
 use Rattle.wavelet.proofs.Stored.{row-end, rows-before}
 use Rattle.wavelet.proofs.level.row_at.Statement.{statement}
 use Rattle.wavelet.proofs.level.row_at.Tie as tie

@@ -4,7 +4,7 @@ use Prim.Native.Nat.{ℕ, _+_, _*_}
 use native.Mathlib.Nat.{add-sub-cancel-left}
 use native.Mathlib.Omega.{arith}
 use lib.ListN.{take, drop}
-use Rattle.bit_rows.specs.Bits.{sampleCount}
+use Rattle.bits.specs.Bits.{sampleCount}
 use Rattle.wavelet.proofs.Stored.{samples-end, samples-before}
 use Rattle.wavelet.proofs.level.samples_at.Statement.{statement}
 use Rattle.wavelet.proofs.level.samples_at.Tie as tie

@@ -2,8 +2,8 @@ use borrow.Author.Needs.{needs}
 use mathlib.Core.Path.{sym, ap, _∙_}
 use mathlib.Core.List.{List}
 use Prim.Native.Nat.{ℕ}
-use Rattle.bit_rows.specs.Bits.{bitsOf}
-use Rattle.bit_rows.specs.Sequences.{select, placeBelow}
+use Rattle.bits.specs.Bits.{bitsOf}
+use Rattle.bits.specs.Sequences.{select, placeBelow}
 use Rattle.wavelet.proofs.Stored.{sampled, level-is}
 use Rattle.wavelet.proofs.level.select_zero.Statement.{statement}
 use Rattle.wavelet.proofs.level.select_zero.Tie as tie

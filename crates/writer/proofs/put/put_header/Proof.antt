@@ -3,7 +3,7 @@ use mathlib.Core.Path.{ap, _∙_}
 use mathlib.Core.List.{List, map}
 use native.Mathlib.Omega.{arith}
 use borrow.Author.Needs.{needs}
-use Rattle.bit_rows.specs.Bits.{concat, littleEndian}
+use Rattle.bits.specs.Bits.{concat, littleEndian}
 use Rattle.archive.proofs.Bounds.{bounded, header-is}
 use Rattle.writer.specs.Writing.{overwriteAt}
 use Rattle.writer.proofs.put.put_header.Statement.{statement}

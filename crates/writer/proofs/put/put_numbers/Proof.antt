@@ -5,9 +5,9 @@ use native.Mathlib.Omega.{arith}
 use lib.Seq.{length-take-le, take-all}
 use lib.ListN.{length, getD, take}
 use borrow.Author.Needs.{needs}
-use Rattle.bit_rows.specs.Rows.{withNumber}
-use Rattle.bit_rows.specs.Bits.{concat, littleEndian}
-use Rattle.bit_rows.proofs.LittleEndian.{length-numbers}
+use Rattle.bits.specs.Rows.{withNumber}
+use Rattle.bits.specs.Bits.{concat, littleEndian}
+use Rattle.bits.proofs.LittleEndian.{length-numbers}
 use Rattle.model.proofs.Lists.{within-at}
 use Rattle.writer.specs.Writing.{overwriteAt}
 use Rattle.writer.proofs.Numbers.{numbers-suc}

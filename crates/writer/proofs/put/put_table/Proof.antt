@@ -5,9 +5,9 @@ use native.Mathlib.Omega.{arith}
 use lib.Seq.{length-take-le, take-all, paste-zero}
 use lib.ListN.{length-append, length, take}
 use borrow.Author.Needs.{needs}
-use Rattle.bit_rows.specs.Rows.{withNumber}
-use Rattle.bit_rows.specs.Bits.{concat, sum, littleEndian}
-use Rattle.bit_rows.proofs.LittleEndian.{length-numbers}
+use Rattle.bits.specs.Rows.{withNumber}
+use Rattle.bits.specs.Bits.{concat, sum, littleEndian}
+use Rattle.bits.proofs.LittleEndian.{length-numbers}
 use Rattle.model.specs.Format.{tableFrom}
 use Rattle.model.proofs.Format.Layout.{length-table}
 use Rattle.model.proofs.Sums.{sum-take-le}

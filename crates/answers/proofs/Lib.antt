@@ -1,0 +1,3 @@
+-- Laws of pairs in a slice, and of what occurs in a range.
+pub mod Stores
+pub mod Occurrences

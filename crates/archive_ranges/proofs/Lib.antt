@@ -1,0 +1,2 @@
+-- Laws of the ends of a range.
+pub mod RangeEnds

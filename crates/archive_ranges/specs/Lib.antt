@@ -1,0 +1,2 @@
+-- What the contracts of ranges cite, beside the definitions of model.
+pub mod Ranges

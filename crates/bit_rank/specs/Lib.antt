@@ -1,0 +1,2 @@
+-- What the contracts of rank cite.
+pub mod Near

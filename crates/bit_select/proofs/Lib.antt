@@ -1,0 +1,3 @@
+-- Laws of the search for a bit.
+pub mod Halving
+pub mod Search

@@ -1,0 +1,9 @@
+// Listing: the documents of a range with their counts. A name that ends in `_opened` is the question of an archive that was opened before; one that
+// ends in `_in` is that without the refusals.
+mod lists;
+
+pub use lists::list;
+pub use lists::list_in;
+pub use lists::list_opened;
+pub use lists::list_terms;
+pub use lists::list_terms_opened;

@@ -1,0 +1,154 @@
+// Listing a range: every document in it once, ascending, with its count.
+use answers::Answer;
+use answers::put_pair;
+use archive::Layout;
+use archive::Opening;
+use archive::open;
+use archive_ranges::Range;
+use archive_ranges::entry_range;
+use archive_ranges::term_range;
+use wavelet::Levels;
+use wavelet::Span;
+use wavelet::halve;
+ghost use mathlib.Core.Path.{_≡_};
+ghost use Prim.Native.Nat.{_+_, _*_, _^_, _≤_, _<_};
+ghost use lib.ListN.{length};
+ghost use Rattle.model.specs.Lists.{part};
+ghost use Rattle.model.specs.Opening.{contents};
+ghost use Rattle.model.specs.Queries.{listing, listResult, ofEntries, ofTerms};
+ghost use Rattle.wavelet.specs.Levels.{Stored, entriesIn};
+ghost use Rattle.wavelet.specs.Spans.{span, Ordered};
+ghost use Rattle.archive.specs.Layout.{Opened};
+ghost use Rattle.answers.specs.Answers.{pairsOf};
+ghost use Rattle.archive_ranges.specs.Ranges.{boundsIn, Inside};
+ghost use Rattle.answers.specs.Written.{Written, Lists};
+ghost use Rattle.listing.specs.Listing.{listOf, pairsUnder};
+
+// The documents of the range lo to hi of the node q of level j, which spans start to end, as pairs from pair number `at` on.
+// Rows that remain fall at each call, and an empty half is not entered. The places pass as numbers: a struct would be copied on the way.
+fn list_node(
+    bytes: &[u8],
+    t: Levels,
+    j: usize,
+    q: usize,
+    start: usize,
+    lo: usize,
+    hi: usize,
+    end: usize,
+    at: usize,
+    answers: &mut [u32],
+) -> usize
+    requires { ⌜ Stored (now bytes) t ⌝ }
+    requires { ⌜ (j ≤ t .height) × (q < 2 ^ j) × Ordered (t .entries) (span start lo hi end)
+        × (2 * (at + length (pairsUnder (now bytes) t j q (span start lo hi end))) ≤ length (now answers)) ⌝ }
+    ensures { λ r. ⌜ Written (pairsUnder (now (bytes .entry)) t j q (span start lo hi end)) at (now (answers .entry)) (now (answers .exit)) r ⌝ }
+{
+    if lo == hi {
+        return at;
+    }
+    if j == t.height {
+        put_pair(answers, at, q, hi - lo);
+        return at + 1;
+    }
+    let two = halve(bytes, t, j, Span { start, lo, hi, end });
+    let low = two.low;
+    let high = two.high;
+    let middle = list_node(
+        bytes,
+        t,
+        j + 1,
+        2 * q,
+        low.start,
+        low.lo,
+        low.hi,
+        low.end,
+        at,
+        answers,
+    );
+    list_node(
+        bytes,
+        t,
+        j + 1,
+        2 * q + 1,
+        high.start,
+        high.lo,
+        high.hi,
+        high.end,
+        middle,
+        answers,
+    )
+}
+
+// The documents of the entries a up to but without b, as pairs in the front of the answers; how many.
+fn list_range(bytes: &[u8], t: Levels, a: usize, b: usize, answers: &mut [u32]) -> usize
+    requires { ⌜ Stored (now bytes) t ⌝ }
+    requires { ⌜ (a ≤ b) × (b ≤ t .entries) × (2 * length (listing (2 ^ t .height) (part a b (entriesIn (now bytes) t))) ≤ length (now answers)) ⌝ }
+    ensures { λ r. ⌜ Lists (listing (2 ^ t .height) (part a b (entriesIn (now (bytes .entry)) t))) r (now (answers .entry)) (now (answers .exit)) ⌝ }
+{
+    list_node(bytes, t, 0, 0, 0, a, b, t.entries, 0, answers)
+}
+
+// The documents of a range of an opened archive: none of its numbers from N up to 2 ^ h occurs.
+pub fn list_in(archive: &[u8], l: Layout, a: usize, b: usize, answers: &mut [u32]) -> usize
+    requires { ⌜ Opened (now archive) l ⌝ }
+    requires { ⌜ (a ≤ b) × (b ≤ l .levels .entries) × (2 * l .documents ≤ length (now answers)) ⌝ }
+    ensures { λ r. ⌜ Lists (listing (l .documents) (part a b (contents (now (archive .entry)) .entries))) r (now (answers .entry)) (now (answers .exit)) ⌝ }
+{
+    list_range(archive, l.levels, a, b, answers)
+}
+
+// The listing of a range that is refused or inside the entries.
+fn list_of(archive: &[u8], l: Layout, range: Range, answers: &mut [u32]) -> Answer
+    requires { ⌜ Opened (now archive) l ⌝ }
+    requires { ⌜ Inside (l .levels .entries) range ⌝ }
+    ensures { λ r. ⌜ pairsOf r (now (answers .exit)) ≡ listOf (contents (now (archive .entry))) (boundsIn range) (now (answers .entry)) ⌝ }
+{
+    match range {
+        Range::Entries { from, to } => {
+            if answers.len() < 2 * l.documents {
+                Answer::Refused(12)
+            } else {
+                Answer::Number(list_in(archive, l, from as usize, to as usize, answers) as u32)
+            }
+        }
+        Range::Refused(number) => Answer::Refused(number),
+    }
+}
+
+pub fn list_opened(archive: &[u8], l: Layout, a: u32, b: u32, answers: &mut [u32]) -> Answer
+    requires { ⌜ Opened (now archive) l ⌝ }
+    ensures { λ r. ⌜ pairsOf r (now (answers .exit)) ≡ listResult (now (archive .entry)) (ofEntries a b) (now (answers .entry)) ⌝ }
+{
+    list_of(archive, l, entry_range(l, a, b), answers)
+}
+
+pub fn list_terms_opened(
+    archive: &[u8],
+    l: Layout,
+    first: u32,
+    last: u32,
+    answers: &mut [u32],
+) -> Answer
+    requires { ⌜ Opened (now archive) l ⌝ }
+    ensures { λ r. ⌜ pairsOf r (now (answers .exit)) ≡ listResult (now (archive .entry)) (ofTerms first last) (now (answers .entry)) ⌝ }
+{
+    list_of(archive, l, term_range(archive, l, first, last), answers)
+}
+
+pub fn list(archive: &[u8], a: u32, b: u32, answers: &mut [u32]) -> Answer
+    ensures { λ r. ⌜ pairsOf r (now (answers .exit)) ≡ listResult (now (archive .entry)) (ofEntries a b) (now (answers .entry)) ⌝ }
+{
+    match open(archive) {
+        Opening::Accepted(l) => list_opened(archive, l, a, b, answers),
+        Opening::Refused(number) => Answer::Refused(number),
+    }
+}
+
+pub fn list_terms(archive: &[u8], first: u32, last: u32, answers: &mut [u32]) -> Answer
+    ensures { λ r. ⌜ pairsOf r (now (answers .exit)) ≡ listResult (now (archive .entry)) (ofTerms first last) (now (answers .entry)) ⌝ }
+{
+    match open(archive) {
+        Opening::Accepted(l) => list_terms_opened(archive, l, first, last, answers),
+        Opening::Refused(number) => Answer::Refused(number),
+    }
+}
