@@ -1,20 +1,19 @@
 -- Refusals 1 to 3, what follows them, and what the check's answer says of the bytes.
 use Prim.Native.Nat.{ℕ, _≤_, _<_}
-use native.Mathlib.Omega.{arith}
 use mathlib.Core.Path.{_≡_, sym, ap, _∙_, subst}
 use mathlib.Core.List.{List}
 use mathlib.Core.Bool.{true, false}
 use lib.ListN.{length}
 use borrow.Author.Tests.{lt-ltb, le-ltb, ne-eqb}
 use Rattle.bits.specs.Bits.{numberAt}
-use Rattle.model.specs.Outcome.{Outcome, answered, refused}
-use Rattle.model.specs.Format.{Sizes, withinLimits}
+use Rattle.model.specs.Outcome.{refused}
+use Rattle.model.specs.Format.{withinLimits}
 use Rattle.model.specs.Opening.{sizesAt, entriesAt, opening}
 use Rattle.wavelet.specs.Levels.{entriesIn}
 use Rattle.archive.specs.declared.Layout.{Layout}
 use Rattle.archive.specs.declared.Opening.{Opening}
 use Rattle.archive.specs.declared.Opening.the-variants.{Accepted, Refused}
-use Rattle.archive.specs.Layout.{sizesIn, layoutOf, Opened}
+use Rattle.archive.specs.Layout.{layoutOf, Opened}
 use Rattle.archive.specs.Opening.{openingOf, LaidOut, partsOutcome}
 
 module _ (bytes : List ℕ) where

@@ -4,12 +4,11 @@ use mathlib.Core.Bool.{Bool, true, false, cond, _&&_}
 use mathlib.Core.List.{List, [], _∷_}
 use Prim.Native.Nat.{ℕ, zero, suc, _+_, _-_, _≤_, _<_}
 use native.Mathlib.Nat.{le-of-suc-le-suc, not-suc-le-zero}
-use native.Mathlib.Numerals.{add-one}
 use native.Mathlib.Omega.{arith}
 use lib.Dec.{eqb}
 use lib.ListN.{length, getD}
 use lib.Seq.{take-all}
-use borrow.Author.Tests.{eqb-true, eq-eqb, ne-eqb}
+use borrow.Author.Tests.{eq-eqb, ne-eqb}
 use Rattle.bits.specs.Sequences.{bit, occurrences, rank, select}
 use Rattle.bits.proofs.Tests.{bit-le}
 
@@ -19,18 +18,6 @@ pub rank-le : (v : ℕ) (xs : List ℕ) (i : ℕ) → rank v xs i ≤ i
 rank-le v xs zero = omega arith
 rank-le v [] (suc i) = omega arith
 rank-le v (x ∷ xs) (suc i) = omega (arith, bit-le (eqb v x), rank-le v xs i)
-
-pub rank-zero : (v : ℕ) (xs : List ℕ) → rank v xs 0 ≡ 0
-rank-zero v xs = refl
-
--- one place more
-pub rank-suc : (v : ℕ) (xs : List ℕ) (i : ℕ) → i < length xs → rank v xs (i + 1) ≡ rank v xs i + bit (eqb v (getD xs i 0))
-rank-suc v xs i h = rw add-one (go xs i h)
-  where
-    go : (xs : List ℕ) (i : ℕ) → i < length xs → rank v xs (suc i) ≡ rank v xs i + bit (eqb v (getD xs i 0))
-    go [] i h = absurd (not-suc-le-zero h)
-    go (x ∷ xs) zero h = omega arith
-    go (x ∷ xs) (suc i) h = omega (arith, go xs i (le-of-suc-le-suc h))
 
 pub rank-mono : (v : ℕ) (xs : List ℕ) (i k : ℕ) → i ≤ k → rank v xs i ≤ rank v xs k
 rank-mono v xs zero k h = omega arith
@@ -70,9 +57,6 @@ select-eq v (x ∷ xs) (suc p) j h e r =
     later (eqb v x) j 0 (suc (select v xs (j - bit (eqb v x)))) (λ t o. omega (arith, ap bit t))
     ∙ ap suc (select-eq v xs p (j - bit (eqb v x)) (le-of-suc-le-suc h) e (omega arith))
 
-pub select-rank : (v : ℕ) (xs : List ℕ) (p : ℕ) → p < length xs → getD xs p 0 ≡ v → select v xs (rank v xs p + 1) ≡ p
-select-rank v xs p h e = select-eq v xs p (rank v xs p + 1) h e refl
-
 -- where fewer are there, the answer is one past the end
 pub select-none : (v : ℕ) (xs : List ℕ) (j : ℕ) → occurrences v xs < j → select v xs j ≡ length xs
 select-none v [] j h = refl
@@ -86,23 +70,3 @@ select-zero v [] = refl
 select-zero v (x ∷ xs) =
     let e : 0 - bit (eqb v x) ≡ 0 = omega arith in
     later (eqb v x) 0 0 (suc (select v xs (0 - bit (eqb v x)))) (λ t o. omega arith) ∙ ap suc (rw e (select-zero v xs))
-
--- what stands at the place that is found, and how many stand before it
-pub select-found : (v : ℕ) (xs : List ℕ) (j : ℕ) → select v xs j < length xs
-    → (getD xs (select v xs j) 0 ≡ v) × (rank v xs (select v xs j) + 1 ≡ j)
-select-found v [] j h = absurd (not-suc-le-zero h)
-select-found v (x ∷ xs) j h = go (eqb v x) refl (eqb j 1) refl (select-found v xs (j - bit (eqb v x))) h
-  where
-    go : (t : Bool) → eqb v x ≡ t → (o : Bool) → eqb j 1 ≡ o
-        → (select v xs (j - bit (eqb v x)) < length xs
-        → (getD xs (select v xs (j - bit (eqb v x))) 0 ≡ v) × (rank v xs (select v xs (j - bit (eqb v x))) + 1 ≡ j - bit (eqb v x)))
-        → cond (t && o) 0 (suc (select v xs (j - bit (eqb v x)))) < suc (length xs)
-        → (getD (x ∷ xs) (cond (t && o) 0 (suc (select v xs (j - bit (eqb v x))))) 0 ≡ v)
-        × (rank v (x ∷ xs) (cond (t && o) 0 (suc (select v xs (j - bit (eqb v x))))) + 1 ≡ j)
-    go true e true f rest l = (sym (eqb-true v x e), sym (eqb-true j 1 f))
-    go true e false f rest l =
-        let r = rest (le-of-suc-le-suc l) in
-        (r .0, omega (arith, ap bit e))
-    go false e o f rest l =
-        let r = rest (le-of-suc-le-suc l) in
-        (r .0, omega (arith, ap bit e))

@@ -9,7 +9,7 @@ use native.Mathlib.Decide.{ℕ-discrete}
 use native.Mathlib.Numerals.{one-add, add-one, add-two, add-three}
 use native.Mathlib.Omega.{arith}
 use lib.Dec.{eqb}
-use lib.ListN.{length, getD, set, length-set}
+use lib.ListN.{length, getD, set}
 use lib.Pow.{pow-pos, pow-add, shr-shr, shr-lt}
 use lib.Seq.{sets-eq, getD-set-same, getD-set-other}
 use borrow.Author.Tests.{eqb-true, eqb-false, eq-eqb}
@@ -89,9 +89,6 @@ module _ (row : List ℕ) (i b : ℕ) (within : i < 8 * length row) (clear : bit
           let d : k % 8 ≢ i % 8 = omega arith in
           rw (e, getD-set-same row (i / 8) (getD row (i / 8) 0 + b * 2 ^ (i % 8)) 0 (omega arith)) (stored-other (getD row (i / 8) 0) (i % 8) b clear bit (k % 8) d)
       go (no d) = rw (getD-set-other row (i / 8) (k / 8) (getD row (i / 8) 0 + b * 2 ^ (i % 8)) 0 d)
-
-pub length-withBit : (row : List ℕ) (i b : ℕ) → length (withBit row i b) ≡ length row
-length-withBit row i b = length-set row (i / 8) (getD row (i / 8) 0 + b * 2 ^ (i % 8))
 
 -- ---- unused bits
 

@@ -1,11 +1,11 @@
 -- What the contracts of the code cite beside the definitions of rows: counts below a place, what a row with samples is, what the stores write.
 use mathlib.Core.Path.{_≡_}
-use mathlib.Core.Bool.{Bool, true, false}
+use mathlib.Core.Bool.{true}
 use mathlib.Core.List.{List, _++_}
 use Prim.Native.Nat.{ℕ, zero, suc, _+_, _-_, _*_, _/_, _%_, _^_, _≤_, _<_}
 use lib.ListN.{length, getD, set, take, drop}
 use Rattle.bits.specs.Bits.{bitsOf, rowBytes, sampleCount, samplesRight, littleEndian, numberAt}
-use Rattle.bits.specs.Sequences.{occurrences, Place, place, none}
+use Rattle.bits.specs.Sequences.{occurrences}
 
 -- how many of the bits below place i are v; at a place of the row this is its rank
 unfoldable pub countBelow : ℕ → List ℕ → ℕ → ℕ

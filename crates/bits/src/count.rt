@@ -4,7 +4,7 @@ ghost use mathlib.Core.Path.{_≡_};
 ghost use Prim.Native.Nat.{_+_, _-_, _*_, _/_, _%_, _^_, _≤_, _<_};
 ghost use lib.ListN.{length};
 ghost use lib.Count.{ones};
-ghost use Rattle.bits.specs.Bits.{bitAt, rowBytes};
+ghost use Rattle.bits.specs.Bits.{bitAt};
 ghost use Rattle.bits.specs.Rows.{countBelow};
 
 // Bit i of the row.

@@ -7,7 +7,6 @@ use lib.ListN.{length, drop}
 use Rattle.frontier.specs.declared.Record.{Record}
 use Rattle.frontier.specs.Heap.{queue, Heap}
 use Rattle.wavelet.specs.Levels.{entriesIn}
-use Rattle.model.specs.Rows.{height}
 use Rattle.model.specs.TopK.{Node, node, countIn}
 use Rattle.model.specs.Search as model
 use Rattle.model.specs.Search.{Waiting, names, opens, findsSpent, moveOf, occupied}

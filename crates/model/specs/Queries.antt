@@ -1,7 +1,7 @@
 -- The questions over the plain list, each with its whole result. Document 01, "The questions" and their refusals 10 to 12.
 use Prim.Native.Nat.{ℕ, suc, _+_, _*_, _/_}
 use mathlib.Core.List.{List, [], _∷_, map}
-use mathlib.Core.Bool.{Bool, cond, _||_}
+use mathlib.Core.Bool.{Bool, _||_}
 use lib.ListN.{length, getD, take}
 use lib.Dec.{leb, ltb, eqb}
 use Rattle.bits.specs.Sequences.{all, below, occurrences, rank, select}

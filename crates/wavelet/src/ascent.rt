@@ -34,7 +34,8 @@ fn up(
     k: usize,
 ) -> usize
     requires { ⌜ Stored (now bytes) t ⌝ }
-    requires { ⌜ (j < t .height) × (start < end) × (end ≤ t .entries) × (k ≤ t .entries) × (before ≡ sequences.rank 1 (levelOf (now bytes) t j) start) × (before ≤ start) ⌝ }
+    requires { ⌜ (j < t .height) × (start < end) × (end ≤ t .entries) × (k ≤ t .entries) ⌝ }
+    requires { ⌜ (before ≡ sequences.rank 1 (levelOf (now bytes) t j) start) × (before ≤ start) ⌝ }
     ensures { λ r. ⌜ (r ≡ upFromHalf (levelOf (now (bytes .entry)) t j) start bit k) × (r ≤ t .entries) ⌝ }
 {
     if bit == 1 {
@@ -75,7 +76,8 @@ fn offset_of(
 ) -> Found
     requires { ⌜ Stored (now bytes) t ⌝ }
     requires { ⌜ (j ≤ t .height) × (start ≤ end) × (end ≤ t .entries) ⌝ }
-    ensures { λ r. ⌜ (foundOf r ≡ offsetFrom (levelOf (now (bytes .entry)) t) d (t .height - j) j start end k) × (placeOr r 0 ≤ t .entries) × (start + found r ≤ end) ⌝ }
+    ensures { λ r. ⌜ foundOf r ≡ offsetFrom (levelOf (now (bytes .entry)) t) d (t .height - j) j start end k ⌝ }
+    ensures { λ r. ⌜ (placeOr r 0 ≤ t .entries) × (start + found r ≤ end) ⌝ }
 {
     if j == t.height {
         return at_leaf(k, end - start);

@@ -13,10 +13,10 @@ use Rattle.bits.specs.Sequences.{tally, rank}
 use Rattle.bits.proofs.Tally.{tally-none}
 use Rattle.model.specs.Lists.{Within}
 use Rattle.model.specs.Rows.{row, arranged}
-use Rattle.model.specs.Walk.{zerosIn, left, right, posOf, pos, key}
+use Rattle.model.specs.Walk.{left, right, posOf, pos, key}
 use Rattle.model.proofs.Lists.{tally-within, within-take}
 use Rattle.model.proofs.Wavelet.Groups.{groupsFrom, pos-lt, length-groups}
-use Rattle.model.proofs.Wavelet.Step.{rowOf, step-ones, step-zeros, step-left, step-right, step-start, step-middle, step-end, step-bit, tally-halves, tally-start, tally-middle}
+use Rattle.model.proofs.Wavelet.Step.{rowOf, step-ones, step-left, step-right, step-start, step-middle, step-end, step-bit, tally-halves, tally-start, tally-middle}
 
 -- ---- keys
 
@@ -101,10 +101,6 @@ module _ (h j : ℕ) (xs : List ℕ) (l : j < h) (q : ℕ) (m : q < 2 ^ j) where
   pub row-ones : (a : ℕ) → rank 1 (row h j xs) (pos h xs j q a) ≡ rank 1 (row h j xs) (pos h xs j q 0) + tally (λ v. eqb (key h (suc j) v) (2 * q + 1)) (take a xs)
   row-ones a = at-row (λ r k. rank 1 r (posOf k xs q a) ≡ rank 1 r (posOf k xs q 0) + tally (λ v. eqb (key h (suc j) v) (2 * q + 1)) (take a xs))
       (step-ones (key h (suc j)) xs (2 ^ j) q m a)
-
-  pub row-zeros : (a : ℕ) → zerosIn (row h j xs) (pos h xs j q 0) (pos h xs j q a) ≡ tally (λ v. eqb (key h (suc j) v) (2 * q)) (take a xs)
-  row-zeros a = at-row (λ r k. zerosIn r (posOf k xs q 0) (posOf k xs q a) ≡ tally (λ v. eqb (key h (suc j) v) (2 * q)) (take a xs))
-      (step-zeros (key h (suc j)) xs (2 ^ j) q m a)
 
   pub row-left : (a : ℕ) → left (row h j xs) (pos h xs j q 0) (pos h xs j q a) ≡ pos h xs (suc j) (2 * q) a
   row-left a = at-row (λ r k. left r (posOf k xs q 0) (posOf k xs q a) ≡ pos h xs (suc j) (2 * q) a) (step-left (key h (suc j)) xs (2 ^ j) q m a)

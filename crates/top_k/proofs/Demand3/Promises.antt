@@ -1,32 +1,27 @@
 -- Demand 3, sentence by sentence, of what both searches promise where a question is accepted: `x` is what is searched.
-use Prim.Native.Nat.{ℕ, _*_, _≤_, _<_, min}
-use native.Mathlib.Omega.{arith}
-use mathlib.Core.Path.{_≡_, refl, sym, ap, ap₂, _∙_, subst}
+use Prim.Native.Nat.{ℕ, _*_, _≤_, _<_}
+use mathlib.Core.Path.{_≡_, refl, sym, ap, ap₂, _∙_}
 use mathlib.Core.List.{List}
 use mathlib.Core.Bool.{Bool, true, false, cond}
 use lib.ListN.{length, take, drop, replicate}
 use lib.Seq.{take-append-seam}
-use lib.Dec.{leb, ltb}
+use lib.Dec.{leb}
 use borrow.Author.Tests.{le-leb, lt-leb}
 use Rattle.bits.specs.Sequences.{tally}
-use Rattle.model.specs.Lists.{part, overwrite, Within}
-use Rattle.model.specs.Outcome.{Outcome, answered, refused, refuse, andThen}
+use Rattle.model.specs.Lists.{overwrite, Within}
+use Rattle.model.specs.Outcome.{Outcome, answered, refused, andThen}
 use Rattle.model.specs.Rows.{height}
-use Rattle.model.specs.Format.{Sizes}
-use Rattle.model.specs.Opening.{opening, contents}
-use Rattle.model.specs.Queries.{Pair, Range, Bounds, boundsOf, inRange, flat}
+use Rattle.model.specs.Queries.{Pair, Range, flat}
 use Rattle.model.specs.TopK.{fullList, need, covered, Answer, done, spent, topK, Ended, doneWith, spentWith, endedOf, pairsOf, SearchResult, foundInto, greedyResult, probingResult}
 use Rattle.model.specs.Search.{isOpening, searchMoves}
 use Rattle.model.specs.Demand3.{isDone, figure}
 use Rattle.model.proofs.Height.{le-pow-height}
-use Rattle.model.proofs.Lists.{within-part}
-use Rattle.model.proofs.Format.Valid.{refuse-answered}
 use Rattle.model.proofs.Format.WriteBack as opened
 use Rattle.model.proofs.Pairs.{length-flat}
 use Rattle.model.proofs.Greedy.Answers.{figureOf}
 use Rattle.model.proofs.Greedy.Theorem.{openings, topK-mono}
 use Rattle.search.specs.Sought.{Asked, greedyOf, probingOf}
-use Rattle.top_k.specs.Asked.{withRoom, asked}
+use Rattle.top_k.specs.Asked.{asked}
 use Rattle.top_k.proofs.Asking.{search-asked}
 use Rattle.top_k.proofs.Demand3.FullList.{Longest, longest-covered}
 
@@ -57,30 +52,6 @@ module _ (bytes : List ℕ) (range : Range) (k : ℕ) (out work : List ℕ) (x :
   probing-accepted =
       search-asked bytes range k out work (λ N xs. probingOf k (record { documents = N; entries = xs }))
       ∙ ap (λ (o : Outcome Asked). foundInto out work (andThen o (λ y. answered (probingOf k y)))) accepted
-
-  -- what is searched are documents
-  pub accepted-within : Within (x .documents) (x .entries)
-  accepted-within = from (opening bytes) refl accepted
-    where
-      asks : Asked → Outcome Asked
-      asks y = withRoom k (length out) (length work) y
-
-      inside : (s : Sizes) → opening bytes ≡ answered s → (o : Outcome Bounds)
-          → andThen (andThen o (λ b. answered (part (b .from) (b .to) (contents bytes .entries)))) (λ xs. asks (record { documents = contents bytes .documents; entries = xs })) ≡ answered x
-          → Within (x .documents) (x .entries)
-      inside s e (answered b) q =
-          let y : Asked = record { documents = contents bytes .documents; entries = part (b .from) (b .to) (contents bytes .entries) } in
-          let room = refuse-answered 12 (ltb (length out) (2 * min k (y .documents))) (refuse 13 (ltb (length work) (4 * y .documents)) (answered y)) x q in
-          let is : y ≡ x = cc (refuse-answered 13 (ltb (length work) (4 * y .documents)) (answered y) x (room .1) .1) in
-          subst (λ (z : Asked). Within (z .documents) (z .entries)) is
-          (within-part (y .documents) (b .from) (b .to) (contents bytes .entries) (opened.accepted bytes s e .0 .within))
-      inside s e (refused number) q = let z : _≡_ {A = ℕ} 0 1 = cc q in absurd (omega arith)
-
-      from : (o : Outcome Sizes) → opening bytes ≡ o
-          → andThen (andThen o (λ s. answered (contents bytes))) (λ lib. andThen (inRange lib range) (λ xs. asks (record { documents = lib .documents; entries = xs }))) ≡ answered x
-          → Within (x .documents) (x .entries)
-      from (answered s) e q = inside s e (boundsOf (contents bytes) range) q
-      from (refused number) e q = let z : _≡_ {A = ℕ} 0 1 = cc q in absurd (omega arith)
 
 -- ---- what an answer says
 

@@ -1,11 +1,10 @@
-use mathlib.Core.Path.{_≡_, sym, ap, _∙_}
+use mathlib.Core.Path.{_≡_, sym, _∙_}
 use mathlib.Core.Bool.{true, false, not}
 use lib.Dec.{leb}
 use borrow.Author.Tests.{not-true, not-false}
 use Rattle.bits.specs.Sequences.{all, below}
 use Rattle.model.specs.Lists.{any}
 use Rattle.wavelet.specs.Levels.{entriesIn}
-use Rattle.archive.specs.declared.Opening.the-variants.{Accepted}
 use Rattle.archive.specs.Opening.{sampledAt, clearAt}
 use Rattle.archive.proofs.Parts.{laid-placed, placed-stored}
 use Rattle.archive.proofs.check.check_levels.Statement.{statement}

@@ -62,7 +62,7 @@ offset-of-returns : (t : ℕ) → offset-of-lts.Need-returns (offset-of-calls t)
 offset-of-returns t c =
     let s = c .before .before .before .before in
     let g = s .args in
-    (c .at-leaf .ensures .0 ∙ offset-end (g .bytes .now) (g .t) (g .d) (g .j) (g .start) (g .end) (g .k) (c .before .if1 .taken), omega arith, omega arith)
+    (c .at-leaf .ensures .0 ∙ offset-end (g .bytes .now) (g .t) (g .d) (g .j) (g .start) (g .end) (g .k) (c .before .if1 .taken), (omega arith, omega arith))
 
 offset-of-ones-requires : (t : ℕ) → offset-of-lts.Need-ones-requires (offset-of-calls t) (offset-of-at t) offset-of.Post
 offset-of-ones-requires t c κs = search needs
@@ -136,8 +136,7 @@ offset-of-returns-2 t c =
           (ap foundOf e ∙ c .before .before .offset-of .ensures .0
           ∙ (λ i. offsetFrom (levelOf (g .bytes .now) (g .t)) (g .d) (g .t .height - (g .j + 1)) (g .j + 1) (c .before .before .before .before .pick .ensures i)
           (c .before .before .before .pick2 .ensures i) (g .k))),
-      omega arith,
-      omega arith,
+      (omega arith, omega arith),
     )
 
 -- what the half has
@@ -149,7 +148,7 @@ offset-of-filled : (t : ℕ) (c : offset-of-lts.After-known-told (offset-of-call
     → c .before .before .before .before .before .before .before .before .before .before .before .before .args .start
     < c .before .before .before .before .before .before .before .before .before .before .before .before .args .end
 offset-of-filled t c =
-    let f = rw (← (offset-of-found t c)) at (c .before .before .before .offset-of .ensures .2) in
+    let f = rw (← (offset-of-found t c)) at (c .before .before .before .offset-of .ensures .1 .1) in
     let p = offset-of-inside t (c .before .before .before .before) in
     omega arith
 
@@ -157,8 +156,8 @@ offset-of-up-requires : (t : ℕ) → offset-of-lts.Need-up-requires (offset-of-
 offset-of-up-requires t c κs =
     let k = c .before .before .before .before .before .before .before in
     let s = k .before .before .before .before .before in
-    let b = rw (← (offset-of-found t c)) at (c .before .before .before .offset-of .ensures .1) in
-    (s .pre .1 .0, (omega arith, offset-of-filled t c, s .pre .1 .1 .2, b, k .before .ones .ensures .0, k .before .ones .ensures .1))
+    let b = rw (← (offset-of-found t c)) at (c .before .before .before .offset-of .ensures .1 .0) in
+    (s .pre .1 .0, ((omega arith, offset-of-filled t c, s .pre .1 .1 .2, b), (k .before .ones .ensures .0, k .before .ones .ensures .1)))
 
 offset-of-returns-3 : (t : ℕ) → offset-of-lts.Need-returns-3 (offset-of-calls t) (offset-of-at t) offset-of.Post
 offset-of-returns-3 t c =
@@ -175,8 +174,7 @@ offset-of-returns-3 t c =
           (ap foundOf (offset-of-found t (c .before)) ∙ c .before .before .before .before .offset-of .ensures .0
           ∙ (λ i. offsetFrom (levelOf (g .bytes .now) (g .t)) (g .d) (g .t .height - (g .j + 1)) (g .j + 1) (c .before .before .before .before .before .before .pick .ensures i)
           (c .before .before .before .before .before .pick2 .ensures i) (g .k))),
-      c .up .ensures .1,
-      omega (arith, offset-of-filled t (c .before)),
+      (c .up .ensures .1, omega (arith, offset-of-filled t (c .before))),
     )
 
 pub +offset-of-spec : {M : Type 1} → statement M

@@ -31,9 +31,9 @@ sub-result c =
     let b = g .bytes .now in
     let bits : List ℕ = levelOf b (g .t) (g .j) in
     let e =
-    placed b (g .t) (g .j) (s .pre .1 .0) 1 (g .before + g .k + 1) (c .before .select-one .result) (c .place-or .result) (c .before .select-one .ensures) (c .place-or .ensures)
-    ∙ ap (λ (x : ℕ). select 1 bits (x + g .k + 1)) (s .pre .1 .4) in
-    rw e (one-after b (g .t) (g .j) (s .pre .1 .0) (g .start) (g .k) (omega arith))
+    placed b (g .t) (g .j) (s .pre .1 .0 .0) 1 (g .before + g .k + 1) (c .before .select-one .result) (c .place-or .result) (c .before .select-one .ensures) (c .place-or .ensures)
+    ∙ ap (λ (x : ℕ). select 1 bits (x + g .k + 1)) (s .pre .1 .1 .0) in
+    rw e (one-after b (g .t) (g .j) (s .pre .1 .0 .0) (g .start) (g .k) (omega arith))
 
 sub-select-zero : tie.Need-sub-select-zero
 sub-select-zero c = search needs
@@ -48,7 +48,7 @@ select-zero-requires : tie.Need-select-zero-requires
 select-zero-requires c κs =
     let s = c .before .before in
     let g = s .args in
-    let z = zeros-before (g .bytes .now) (g .t) (g .j) (s .pre .1 .0) (g .start) (g .k) (omega arith) in
+    let z = zeros-before (g .bytes .now) (g .t) (g .j) (s .pre .1 .0 .0) (g .start) (g .k) (omega arith) in
     (s .pre .0, (omega arith, omega arith, omega arith, omega arith))
 
 place-or-requires-2 : tie.Need-place-or-requires-2
@@ -61,9 +61,9 @@ sub-result-2 c =
     let b = g .bytes .now in
     let bits : List ℕ = levelOf b (g .t) (g .j) in
     let e =
-    placed b (g .t) (g .j) (s .pre .1 .0) 0 ((g .start - g .before) + g .k + 1) (c .before .select-zero .result) (c .place-or2 .result) (c .before .select-zero .ensures) (c .place-or2 .ensures)
-    ∙ ap (λ (x : ℕ). select 0 bits ((g .start - x) + g .k + 1)) (s .pre .1 .4) in
-    rw e (zero-after b (g .t) (g .j) (s .pre .1 .0) (g .start) (g .k) (omega arith))
+    placed b (g .t) (g .j) (s .pre .1 .0 .0) 0 ((g .start - g .before) + g .k + 1) (c .before .select-zero .result) (c .place-or2 .result) (c .before .select-zero .ensures) (c .place-or2 .ensures)
+    ∙ ap (λ (x : ℕ). select 0 bits ((g .start - x) + g .k + 1)) (s .pre .1 .1 .0) in
+    rw e (zero-after b (g .t) (g .j) (s .pre .1 .0 .0) (g .start) (g .k) (omega arith))
 
 returns : tie.Need-returns
 returns c =
@@ -72,10 +72,10 @@ returns c =
     let b = g .bytes .now in
     let bits : List ℕ = levelOf b (g .t) (g .j) in
     let e =
-    placed b (g .t) (g .j) (s .pre .1 .0) 1 (g .before + g .k + 1) (c .before .select-one .result) (c .place-or .result) (c .before .select-one .ensures) (c .place-or .ensures)
-    ∙ ap (λ (x : ℕ). select 1 bits (x + g .k + 1)) (s .pre .1 .4) in (
+    placed b (g .t) (g .j) (s .pre .1 .0 .0) 1 (g .before + g .k + 1) (c .before .select-one .result) (c .place-or .result) (c .before .select-one .ensures) (c .place-or .ensures)
+    ∙ ap (λ (x : ℕ). select 1 bits (x + g .k + 1)) (s .pre .1 .1 .0) in (
       rw (eq-eqb (g .bit) 1 (c .before .before .if1 .taken)) (ap (λ (x : ℕ). x - g .start) e),
-      omega (arith, e, select-inside b (g .t) (g .j) (s .pre .1 .0) 1 (rank 1 bits (g .start) + g .k + 1)),
+      omega (arith, e, select-inside b (g .t) (g .j) (s .pre .1 .0 .0) 1 (rank 1 bits (g .start) + g .k + 1)),
     )
 
 returns-2 : tie.Need-returns-2
@@ -85,10 +85,10 @@ returns-2 c =
     let b = g .bytes .now in
     let bits : List ℕ = levelOf b (g .t) (g .j) in
     let e =
-    placed b (g .t) (g .j) (s .pre .1 .0) 0 ((g .start - g .before) + g .k + 1) (c .before .select-zero .result) (c .place-or2 .result) (c .before .select-zero .ensures) (c .place-or2 .ensures)
-    ∙ ap (λ (x : ℕ). select 0 bits ((g .start - x) + g .k + 1)) (s .pre .1 .4) in (
+    placed b (g .t) (g .j) (s .pre .1 .0 .0) 0 ((g .start - g .before) + g .k + 1) (c .before .select-zero .result) (c .place-or2 .result) (c .before .select-zero .ensures) (c .place-or2 .ensures)
+    ∙ ap (λ (x : ℕ). select 0 bits ((g .start - x) + g .k + 1)) (s .pre .1 .1 .0) in (
       rw (ne-eqb (g .bit) 1 (c .before .before .if1 .left)) (ap (λ (x : ℕ). x - g .start) e),
-      omega (arith, e, select-inside b (g .t) (g .j) (s .pre .1 .0) 0 ((g .start - rank 1 bits (g .start)) + g .k + 1)),
+      omega (arith, e, select-inside b (g .t) (g .j) (s .pre .1 .0 .0) 0 ((g .start - rank 1 bits (g .start)) + g .k + 1)),
     )
 
 pub up-spec : {M : Type 1} → statement M
