@@ -1,6 +1,5 @@
-// Document 01's cases that are not proved; then many random libraries through the code, beside a plain count over the list.
+// Many random libraries through the code, beside a plain count over the list.
 mod archives;
-mod cases;
 mod differences;
 mod library;
 mod lists;
@@ -9,7 +8,6 @@ mod random;
 mod searches;
 mod shapes;
 
-use cases::cases;
 use differences::totals;
 use library::library;
 use random::draw;
@@ -26,7 +24,6 @@ fn libraries(made: &mut [u32; 64]) {
 
 fn main() {
     let mut made = [0u32; 64];
-    cases();
     libraries(&mut made);
     totals(&made);
 }
