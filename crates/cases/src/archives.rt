@@ -1,11 +1,11 @@
 // Lines that make an archive, behind 16 bytes. Each prints and answers the archive's length in bytes.
 use crate::show::number;
 use crate::show::refused;
-use plain::bytes::clear_bytes;
-use plain::bytes::put_byte;
-use plain::slices::at;
-use plain::slices::low;
-use plain::slices::plus;
+use slices::at;
+use slices::clear_bytes;
+use slices::low;
+use slices::plus;
+use slices::put_byte;
 use writer::Written;
 
 // write ROOM N n ENTRIES W LENGTHS.

@@ -2,8 +2,8 @@
 // question takes 16 bytes before the archive.
 use crate::numbers::Question;
 use crate::questions::ask;
-use plain::bytes::put_number;
-use plain::slices::plus;
+use slices::plus;
+use slices::put_number;
 
 pub struct Part {
     pub start: u32,

@@ -1,6 +1,6 @@
 // The names of the operations. The number of one is its place among them.
 use crate::numbers::byte_at;
-use plain::slices::plus;
+use slices::plus;
 
 pub const NONE: u32 = 99;
 

@@ -1,8 +1,8 @@
 // The numbers of a line, in their order; words between them are for the reader, and a bracket ends them. 3*7 is three sevens.
-use plain::slices::at;
-use plain::slices::minus;
-use plain::slices::plus;
-use plain::slices::put;
+use slices::at;
+use slices::minus;
+use slices::plus;
+use slices::put;
 
 // The number of an operation, and the first numbers of the line: 0 where there are fewer.
 pub struct Question {

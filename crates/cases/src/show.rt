@@ -4,9 +4,9 @@ use answers::Placed;
 use archive::Opening;
 use archive_ranges::Range;
 use libc::STDOUT_FILENO;
-use plain::slices::at;
-use plain::slices::low;
 use reader::Reading;
+use slices::at;
+use slices::low;
 use top_k::Probed;
 use top_k::TopK;
 

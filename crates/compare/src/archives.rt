@@ -4,19 +4,19 @@ use crate::random::draw;
 use crate::random::room;
 use archive::Opening;
 use plain::archive::length_of;
-use plain::bytes::same_bytes;
 use plain::outcome::NUMBER;
 use plain::outcome::Outcome;
 use plain::outcome::Sizes;
 use plain::outcome::number;
 use plain::outcome::question_of;
 use plain::outcome::refused;
-use plain::slices::at;
-use plain::slices::both_same;
-use plain::slices::low;
-use plain::slices::minus;
-use plain::slices::put;
 use reader::Reading;
+use slices::at;
+use slices::both_same;
+use slices::low;
+use slices::minus;
+use slices::put;
+use slices::same_bytes;
 use writer::Written;
 
 fn written(found: Written) -> Outcome {

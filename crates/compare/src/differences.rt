@@ -3,9 +3,9 @@ use libc::STDOUT_FILENO;
 use plain::outcome::Outcome;
 use plain::outcome::Question;
 use plain::outcome::REFUSED;
-use plain::slices::at;
-use plain::slices::count_at;
-use plain::slices::plus;
+use slices::at;
+use slices::count_at;
+use slices::plus;
 
 pub fn text(bytes: &[u8]) {
     io::write_all(STDOUT_FILENO, bytes);

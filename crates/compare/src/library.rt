@@ -10,9 +10,9 @@ use crate::shapes::Shape;
 use crate::shapes::drawn;
 use plain::archive::length_of;
 use plain::outcome::Sizes;
-use plain::slices::count_at;
-use plain::slices::plus;
-use plain::slices::put;
+use slices::count_at;
+use slices::plus;
+use slices::put;
 
 fn fill_entries(how: u32, n: u32, documents: u32, seed: u32, entries: &mut [u32]) {
     let mut i = 0;

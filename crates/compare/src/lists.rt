@@ -13,10 +13,10 @@ use plain::outcome::Question;
 use plain::outcome::Sizes;
 use plain::outcome::refused;
 use plain::pairs;
-use plain::slices::least;
-use plain::slices::minus;
-use plain::slices::plus;
-use plain::slices::same;
+use slices::least;
+use slices::minus;
+use slices::plus;
+use slices::same;
 
 // Lists with the first so many numbers of the answers lent.
 fn list_into(archive: &[u8], q: Question, answers: &mut [u32]) -> Outcome {

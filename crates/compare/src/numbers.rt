@@ -16,9 +16,9 @@ use plain::outcome::number;
 use plain::outcome::outcome_of;
 use plain::outcome::question_of;
 use plain::outcome::refused;
-use plain::slices::at;
-use plain::slices::minus;
-use plain::slices::plus;
+use slices::at;
+use slices::minus;
+use slices::plus;
 
 pub fn answered(found: Answer) -> Outcome {
     match found {

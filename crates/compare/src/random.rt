@@ -1,6 +1,6 @@
 // Numbers drawn by mixing a seed, so that a seed goes by value: each seed has as many numbers as are asked of it.
-use plain::slices::minus;
-use plain::slices::plus;
+use slices::minus;
+use slices::plus;
 
 fn mixed(x: u32) -> u32 {
     let a = x as u64;

@@ -14,10 +14,10 @@ use plain::outcome::number;
 use plain::outcome::outcome_of;
 use plain::outcome::refused;
 use plain::search;
-use plain::slices::both_same;
-use plain::slices::least;
-use plain::slices::minus;
-use plain::slices::up;
+use slices::both_same;
+use slices::least;
+use slices::minus;
+use slices::up;
 use top_k::Probed;
 use top_k::TopK;
 

@@ -8,9 +8,9 @@ use crate::outcome::Sizes;
 use crate::outcome::number;
 use crate::outcome::outcome_of;
 use crate::outcome::refused;
-use crate::slices::at;
-use crate::slices::count_at;
-use crate::slices::plus;
+use slices::at;
+use slices::count_at;
+use slices::plus;
 
 fn access(entries: &[u32], l: Sizes, place: u32) -> Outcome {
     if l.n <= place {

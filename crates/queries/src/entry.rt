@@ -83,7 +83,7 @@ pub fn select_in(archive: &[u8], l: Layout, document: usize, j: usize) -> Found
     requires { ⌜ (document < l .documents) × (0 < j) ⌝ }
     ensures { λ r. ⌜ foundOf r ≡ sequences.placeBelow (l .levels .entries) (sequences.select document (contents (now (archive .entry)) .entries) j) ⌝ }
 {
-    wavelet::select(archive, l.levels, document, j)
+    wavelet_select::select(archive, l.levels, document, j)
 }
 
 pub fn select_opened(archive: &[u8], l: Layout, document: u32, j: u32) -> Placed

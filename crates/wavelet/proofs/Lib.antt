@@ -4,4 +4,3 @@ pub mod Spans
 pub mod RankedNodes
 pub mod Descents
 pub mod Ranges
-pub mod Places

@@ -2,4 +2,3 @@
 pub mod Levels
 pub mod Spans
 pub mod Ranges
-pub mod Places

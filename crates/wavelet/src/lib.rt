@@ -1,14 +1,16 @@
 // Levels of rows as a wavelet tree. Counts and places of bits come from bit_rows' contracts alone.
-mod ascent;
 mod descent;
 mod level;
 mod node;
 mod range;
 mod split;
 
-pub use ascent::select;
 pub use descent::access;
 pub use descent::rank;
+pub use level::ones;
+pub use level::ones_from;
+pub use level::row_at;
+pub use level::samples_at;
 pub use node::half;
 pub use node::halve;
 pub use range::count_below;

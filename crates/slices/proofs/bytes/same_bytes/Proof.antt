@@ -1,0 +1,46 @@
+-- `same_bytes`: the counter moves to its bound.
+use Prim.Native.Nat.{_-_}
+use borrow.Author.Needs.{needs}
+use Rattle.slices.proofs.bytes.same_bytes.Statement.{statement}
+use Rattle.slices.proofs.bytes.same_bytes.Tie as tie
+
+abbrev Inv-loop : tie.InvT-loop
+Inv-loop xs ys size i₀ i = Unit {0}
+
+abbrev μ-loop : tie.MeasureT-loop
+μ-loop xs ys size i₀ i = size - i
+
+loop-holds : tie.Need-loop-holds Inv-loop μ-loop
+loop-holds c = search needs
+
+differ-requires : tie.Need-differ-requires Inv-loop μ-loop
+differ-requires c κs = search needs
+
+returns : tie.Need-returns Inv-loop μ-loop
+returns c = search needs
+
+add-i : tie.Need-add-i Inv-loop μ-loop
+add-i c = search needs
+
+loop-less : tie.Need-loop-less Inv-loop μ-loop
+loop-less c = search needs
+
+loop-again : tie.Need-loop-again Inv-loop μ-loop
+loop-again c = search needs
+
+returns-2 : tie.Need-returns-2 Inv-loop μ-loop
+returns-2 c = search needs
+
+pub same-bytes-spec : {M : Type 1} → statement M
+same-bytes-spec =
+    tie.close
+    (tie.spec
+    Inv-loop
+    μ-loop
+    loop-holds
+    differ-requires
+    returns
+    add-i
+    loop-less
+    loop-again
+    returns-2)

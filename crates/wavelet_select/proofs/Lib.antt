@@ -1,0 +1,2 @@
+-- Laws of select's way up.
+pub mod Places

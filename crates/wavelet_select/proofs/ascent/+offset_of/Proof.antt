@@ -1,0 +1,202 @@
+use borrow.Author.Needs.{needs}
+use Prim.Native.Nat.{ℕ, _+_, _-_, _/_, _%_, _^_, _≤_, _<_}
+use native.Mathlib.Omega.{arith}
+use mathlib.Core.Path.{_≡_, refl, ap, _∙_}
+use mathlib.Core.List.{List}
+use lib.Dec.{eqb}
+use Rattle.bit_select.specs.Search.{foundOf}
+use Rattle.bits.specs.Sequences.{place}
+use Rattle.bit_select.specs.declared.Found.the-variants.{At, Nothing}
+use Rattle.model.proofs.Wavelet.Counts.{left-le}
+use Rattle.wavelet.specs.Levels.{levelOf}
+use Rattle.wavelet_select.specs.Places.{offsetFrom}
+use Rattle.wavelet.proofs.Spans.{left-is}
+use Rattle.wavelet_select.proofs.Places.{picked, offset-end, offset-none, offset-some}
+use borrow.Fn.Kinds.{In}
+use borrow.Fn.PlainCycle.{Measures, is, falls, and}
+use Rattle.wavelet_select.proofs.ascent.offset_of.Reads as offset-of
+use Rattle.wavelet_select.proofs.ascent.offset_of.Kinds as offset-of-kinds
+use Rattle.wavelet_select.proofs.ascent.+offset_of.Lts-offset_of as offset-of-lts
+use Rattle.wavelet_select.proofs.ascent.at_leaf.Reads as at-leaf-reads
+use Rattle.wavelet_select.proofs.ascent.pick.Reads as pick-reads
+use Rattle.wavelet_select.proofs.ascent.up.Reads as up-reads
+use Rattle.wavelet.proofs.ones.Reads as ones-reads
+use Rattle.wavelet.proofs.ones_from.Reads as ones-from-reads
+use Rattle.wavelet_select.proofs.ascent.+offset_of.{statement}
+use Rattle.wavelet_select.proofs.ascent.+offset_of.Tie.{close}
+
+abbrev μ-offset-of : Measures 1 offset-of-kinds.ps ℕ
+μ-offset-of κs a = a .1 .0 .height - a .1 .1 .1 .0
+
+abbrev offset-of-at : ℕ → In 1 offset-of-kinds.ps
+offset-of-at t = and 1 offset-of-kinds.ps (is 1 offset-of-kinds.ps μ-offset-of t) offset-of.Pre
+
+abbrev offset-of-below : ℕ → In 1 offset-of-kinds.ps
+offset-of-below t =
+    and 1 offset-of-kinds.ps (falls 1 offset-of-kinds.ps _<_ μ-offset-of t) offset-of.Pre
+
+-- what the calls ask and give
+abbrev offset-of-calls : ℕ → offset-of-lts.Claims
+offset-of-calls t = (
+  at-leaf-reads.Asked,
+  at-leaf-reads.Learnt,
+  ones-reads.Asked,
+  ones-reads.Learnt,
+  ones-from-reads.Asked,
+  ones-from-reads.Learnt,
+  pick-reads.Asked,
+  pick-reads.Learnt,
+  offset-of-below t,
+  offset-of.Post,
+  up-reads.Asked,
+  up-reads.Learnt,
+)
+
+offset-of-sub-at-leaf : (t : ℕ) → offset-of-lts.Need-sub-at-leaf (offset-of-calls t) (offset-of-at t) offset-of.Post
+offset-of-sub-at-leaf t c = search needs
+
+offset-of-at-leaf-requires : (t : ℕ) → offset-of-lts.Need-at-leaf-requires (offset-of-calls t) (offset-of-at t) offset-of.Post
+offset-of-at-leaf-requires t c κs = search needs
+
+offset-of-returns : (t : ℕ) → offset-of-lts.Need-returns (offset-of-calls t) (offset-of-at t) offset-of.Post
+offset-of-returns t c =
+    let s = c .before .before .before .before in
+    let g = s .args in
+    (c .at-leaf .ensures .0 ∙ offset-end (g .bytes .now) (g .t) (g .d) (g .j) (g .start) (g .end) (g .k) (c .before .if1 .taken), (omega arith, omega arith))
+
+offset-of-ones-requires : (t : ℕ) → offset-of-lts.Need-ones-requires (offset-of-calls t) (offset-of-at t) offset-of.Post
+offset-of-ones-requires t c κs = search needs
+
+offset-of-ones-from-requires : (t : ℕ) → offset-of-lts.Need-ones-from-requires (offset-of-calls t) (offset-of-at t) offset-of.Post
+offset-of-ones-from-requires t c κs = search needs
+
+offset-of-sub-middle : (t : ℕ) → offset-of-lts.Need-sub-middle (offset-of-calls t) (offset-of-at t) offset-of.Post
+offset-of-sub-middle t c = search needs
+
+offset-of-sub-middle-2 : (t : ℕ) → offset-of-lts.Need-sub-middle-2 (offset-of-calls t) (offset-of-at t) offset-of.Post
+offset-of-sub-middle-2 t c = search needs
+
+offset-of-sub-bit : (t : ℕ) → offset-of-lts.Need-sub-bit (offset-of-calls t) (offset-of-at t) offset-of.Post
+offset-of-sub-bit t c = search needs
+
+offset-of-sub-bit-2 : (t : ℕ) → offset-of-lts.Need-sub-bit-2 (offset-of-calls t) (offset-of-at t) offset-of.Post
+offset-of-sub-bit-2 t c = search needs
+
+offset-of-shr-bit : (t : ℕ) → offset-of-lts.Need-shr-bit (offset-of-calls t) (offset-of-at t) offset-of.Post
+offset-of-shr-bit t c = search needs
+
+offset-of-pick-requires : (t : ℕ) → offset-of-lts.Need-pick-requires (offset-of-calls t) (offset-of-at t) offset-of.Post
+offset-of-pick-requires t c κs = search needs
+
+offset-of-pick-requires-2 : (t : ℕ) → offset-of-lts.Need-pick-requires-2 (offset-of-calls t) (offset-of-at t) offset-of.Post
+offset-of-pick-requires-2 t c κs = search needs
+
+offset-of-add-offset-of : (t : ℕ) → offset-of-lts.Need-add-offset-of (offset-of-calls t) (offset-of-at t) offset-of.Post
+offset-of-add-offset-of t c = search needs
+
+-- the half lies in the node
+offset-of-inside : (t : ℕ) (c : offset-of-lts.After-pick2 (offset-of-calls t) (offset-of-at t) offset-of.Post)
+    → (c .before .before .before .before .before .before .before .before .args .start ≤ c .before .pick .result)
+    × (c .before .pick .result ≤ c .pick2 .result)
+    × (c .pick2 .result ≤ c .before .before .before .before .before .before .before .before .args .end)
+offset-of-inside t c =
+    let k = c .before .before .before in
+    let s = k .before .before .before .before .before in
+    let g = s .args in
+    let bits : List ℕ = levelOf (g .bytes .now) (g .t) (g .j) in
+    let l = s .pre .1 .1 .1 in
+    let m = left-is bits (g .start) (g .end) (k .before .ones .result) (k .ones-from .result) l (k .before .ones .ensures .0) (k .ones-from .ensures .0) in
+    let mid : ℕ = g .end - (k .ones-from .result - k .before .ones .result) in
+    rw (c .before .pick .ensures, c .pick2 .ensures)
+    (picked (eqb (g .d / 2 ^ (g .t .height - 1 - g .j) % 2) 1) (g .start) mid (g .end) (omega arith) (omega (arith, left-le bits (g .start) (g .end) l)))
+
+offset-of-offset-of-requires : (t : ℕ) → offset-of-lts.Need-offset-of-requires (offset-of-calls t) (offset-of-at t) offset-of.Post
+offset-of-offset-of-requires t c κs =
+    let s = c .before .before .before .before .before .before .before .before in
+    let p = offset-of-inside t c in
+    (omega arith, (s .pre .1 .0, (omega arith, p .1, omega arith)))
+
+offset-of-enum-known-below : (t : ℕ) → offset-of-lts.Need-enum-known-below (offset-of-calls t) (offset-of-at t) offset-of.Post
+offset-of-enum-known-below t c = search needs
+
+offset-of-enum-told : (t : ℕ) → offset-of-lts.Need-enum-told (offset-of-calls t) (offset-of-at t) offset-of.Post
+offset-of-enum-told t c = search needs
+
+offset-of-returns-2 : (t : ℕ) → offset-of-lts.Need-returns-2 (offset-of-calls t) (offset-of-at t) offset-of.Post
+offset-of-returns-2 t c =
+    let k = c .before .before .before .before .before .before in
+    let s = k .before .before .before .before .before in
+    let g = s .args in
+    let bits : List ℕ = levelOf (g .bytes .now) (g .t) (g .j) in
+    let l = s .pre .1 .1 .1 in
+    let m = left-is bits (g .start) (g .end) (k .before .ones .result) (k .ones-from .result) l (k .before .ones .ensures .0) (k .ones-from .ensures .0) in
+    let mid : ℕ = g .end - (k .ones-from .result - k .before .ones .result) in
+    let e : Nothing ≡ c .before .before .offset-of .result = cc in (
+      offset-none (g .bytes .now) (g .t) (g .d) (g .j) (g .start) (g .end) (g .k) (omega arith) l (g .d / 2 ^ (g .t .height - 1 - g .j) % 2) mid refl m
+          (ap foundOf e ∙ c .before .before .offset-of .ensures .0
+          ∙ (λ i. offsetFrom (levelOf (g .bytes .now) (g .t)) (g .d) (g .t .height - (g .j + 1)) (g .j + 1) (c .before .before .before .before .pick .ensures i)
+          (c .before .before .before .pick2 .ensures i) (g .k))),
+      (omega arith, omega arith),
+    )
+
+-- what the half has
+offset-of-found : (t : ℕ) (c : offset-of-lts.After-known-told (offset-of-calls t) (offset-of-at t) offset-of.Post) → At (c .before .below .given .0 .0) ≡ c .before .before .before .offset-of .result
+offset-of-found t c = cc
+
+-- so the node has entries
+offset-of-filled : (t : ℕ) (c : offset-of-lts.After-known-told (offset-of-calls t) (offset-of-at t) offset-of.Post)
+    → c .before .before .before .before .before .before .before .before .before .before .before .before .args .start
+    < c .before .before .before .before .before .before .before .before .before .before .before .before .args .end
+offset-of-filled t c =
+    let f = rw (← (offset-of-found t c)) at (c .before .before .before .offset-of .ensures .1 .1) in
+    let p = offset-of-inside t (c .before .before .before .before) in
+    omega arith
+
+offset-of-up-requires : (t : ℕ) → offset-of-lts.Need-up-requires (offset-of-calls t) (offset-of-at t) offset-of.Post
+offset-of-up-requires t c κs =
+    let k = c .before .before .before .before .before .before .before in
+    let s = k .before .before .before .before .before in
+    let b = rw (← (offset-of-found t c)) at (c .before .before .before .offset-of .ensures .1 .0) in
+    (s .pre .1 .0, ((omega arith, offset-of-filled t c, s .pre .1 .1 .2, b), (k .before .ones .ensures .0, k .before .ones .ensures .1)))
+
+offset-of-returns-3 : (t : ℕ) → offset-of-lts.Need-returns-3 (offset-of-calls t) (offset-of-at t) offset-of.Post
+offset-of-returns-3 t c =
+    let k = c .before .before .before .before .before .before .before .before in
+    let s = k .before .before .before .before .before in
+    let g = s .args in
+    let bits : List ℕ = levelOf (g .bytes .now) (g .t) (g .j) in
+    let l = s .pre .1 .1 .1 in
+    let m = left-is bits (g .start) (g .end) (k .before .ones .result) (k .ones-from .result) l (k .before .ones .ensures .0) (k .ones-from .ensures .0) in
+    let mid : ℕ = g .end - (k .ones-from .result - k .before .ones .result) in (
+      ap place (c .up .ensures .0)
+          ∙ offset-some (g .bytes .now) (g .t) (g .d) (g .j) (g .start) (g .end) (g .k) (omega arith) l (g .d / 2 ^ (g .t .height - 1 - g .j) % 2) mid refl m
+          (c .before .before .below .given .0 .0)
+          (ap foundOf (offset-of-found t (c .before)) ∙ c .before .before .before .before .offset-of .ensures .0
+          ∙ (λ i. offsetFrom (levelOf (g .bytes .now) (g .t)) (g .d) (g .t .height - (g .j + 1)) (g .j + 1) (c .before .before .before .before .before .before .pick .ensures i)
+          (c .before .before .before .before .before .pick2 .ensures i) (g .k))),
+      (c .up .ensures .1, omega (arith, offset-of-filled t (c .before))),
+    )
+
+pub +offset-of-spec : {M : Type 1} → statement M
++offset-of-spec = close μ-offset-of λ t. offset-of-lts.spec (offset-of-calls t)
+    (offset-of-at t)
+    offset-of.Post
+    (offset-of-sub-at-leaf t)
+    (offset-of-at-leaf-requires t)
+    (offset-of-returns t)
+    (offset-of-ones-requires t)
+    (offset-of-ones-from-requires t)
+    (offset-of-sub-middle t)
+    (offset-of-sub-middle-2 t)
+    (offset-of-sub-bit t)
+    (offset-of-sub-bit-2 t)
+    (offset-of-shr-bit t)
+    (offset-of-pick-requires t)
+    (offset-of-pick-requires-2 t)
+    (offset-of-add-offset-of t)
+    (offset-of-offset-of-requires t)
+    (offset-of-enum-known-below t)
+    (offset-of-enum-told t)
+    (offset-of-returns-2 t)
+    (offset-of-up-requires t)
+    (offset-of-returns-3 t)

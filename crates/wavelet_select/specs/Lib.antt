@@ -1,0 +1,2 @@
+-- What the contracts of select cite.
+pub mod Places
