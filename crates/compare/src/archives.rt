@@ -1,7 +1,4 @@
 // The writer, the check on opening and the reader, beside the plain bytes and the list.
-use crate::differences::compare;
-use crate::random::draw;
-use crate::random::room;
 use archive::Opening;
 use plain::archive::length_of;
 use plain::outcome::NUMBER;
@@ -17,6 +14,9 @@ use slices::low;
 use slices::minus;
 use slices::put;
 use slices::same_bytes;
+use trials::differences::compare;
+use trials::random::draw;
+use trials::random::room;
 use writer::Written;
 
 fn written(found: Written) -> Outcome {

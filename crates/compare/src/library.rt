@@ -1,11 +1,5 @@
 // Random libraries: their entries and term lengths are drawn, written, read back and asked.
 use crate::archives;
-use crate::lists;
-use crate::numbers;
-use crate::random::below;
-use crate::random::draw;
-use crate::random::once_in;
-use crate::searches;
 use crate::shapes::Shape;
 use crate::shapes::drawn;
 use plain::archive::length_of;
@@ -13,6 +7,12 @@ use plain::outcome::Sizes;
 use slices::count_at;
 use slices::plus;
 use slices::put;
+use trials::lists;
+use trials::numbers;
+use trials::random::below;
+use trials::random::draw;
+use trials::random::once_in;
+use trials::searches;
 
 fn fill_entries(how: u32, n: u32, documents: u32, seed: u32, entries: &mut [u32]) {
     let mut i = 0;

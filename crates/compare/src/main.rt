@@ -1,17 +1,12 @@
 // Many random libraries through the code, beside a plain count over the list.
 mod archives;
-mod differences;
 mod library;
-mod lists;
-mod numbers;
-mod random;
-mod searches;
 mod shapes;
 
-use differences::totals;
 use library::library;
-use random::draw;
 use shapes::shape_of;
+use trials::differences::totals;
+use trials::random::draw;
 
 fn libraries(made: &mut [u32; 64]) {
     let mut i: u32 = 0;

@@ -1,8 +1,8 @@
 // How large a random library is, and how its entries and terms are drawn.
-use crate::random::below;
-use crate::random::draw;
 use slices::plus;
 use slices::up;
+use trials::random::below;
+use trials::random::draw;
 
 // n, N and W; how entries and how terms are drawn; how many questions of a group are asked.
 pub struct Shape {

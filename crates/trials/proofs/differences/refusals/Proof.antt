@@ -1,8 +1,8 @@
 -- `refusals`: the counter moves to its bound.
 use Prim.Native.Nat.{_-_}
 use borrow.Author.Needs.{needs}
-use Rattle.compare.proofs.differences.refusals.Statement.{statement}
-use Rattle.compare.proofs.differences.refusals.Tie as tie
+use Rattle.trials.proofs.differences.refusals.Statement.{statement}
+use Rattle.trials.proofs.differences.refusals.Tie as tie
 
 abbrev Inv-loop : tie.InvT-loop
 Inv-loop made x₀ x = Unit {0}

@@ -1,8 +1,8 @@
 -- `kinds`: the counter moves to its bound.
 use Prim.Native.Nat.{_-_}
 use borrow.Author.Needs.{needs}
-use Rattle.compare.proofs.differences.kinds.Statement.{statement}
-use Rattle.compare.proofs.differences.kinds.Tie as tie
+use Rattle.trials.proofs.differences.kinds.Statement.{statement}
+use Rattle.trials.proofs.differences.kinds.Tie as tie
 
 abbrev Inv-loop : tie.InvT-loop
 Inv-loop made kind₀ kind = Unit {0}

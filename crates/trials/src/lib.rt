@@ -1,0 +1,6 @@
+// One question of each kind, drawn from a seed, through the code and beside the plain side's answer; differences are printed and counted.
+pub mod differences;
+pub mod lists;
+pub mod numbers;
+pub mod random;
+pub mod searches;
