@@ -1,30 +1,29 @@
 /* Masuvelior for C and for what links C: an archive of document numbers, its writer, reader and check, and the questions asked of it.
  *
- * The library is target/staticlib/libmasuvelior.a, which `rt staticlib masuvelior` proves and builds. It needs no other library
- * than C's, has no state, allocates nothing and may be called from several threads at once.
+ * The library is target/staticlib/libmasuvelior.a, which `rt staticlib masuvelior` proves and builds, for x86-64 Linux. It needs no other
+ * library than C's, of that memcpy and memset alone, has no state, allocates nothing and may be called from several threads at once. Of the
+ * stack a call takes up to 25 KB (masuvelior_write), 17 KB (masuvelior_read and masuvelior_opened_read) or 4 KB (all others); a program that
+ * binds memcpy and memset at their first call lets the loader take 3 KB more there.
  *
- * The answer of each function is 0, or the number of a refusal. Where it is 0 each out-parameter is written, and the lent slices as the
- * function says. Where it is not 0 nothing is written at all.
+ * The answer of each function is 0, or the number of a refusal (enum masuvelior_refusal). Where it is 0 each out-parameter is written, and
+ * the lent slices as the function says. Where it is not 0 nothing is written at all.
  *
  * A slice is a pointer to its first element and a length in elements. What the caller keeps, of each function:
  *   - a pointer is not NULL, also that of a slice of length 0, and what it leads to is there and aligned for its type;
  *   - what a function may write overlaps nothing else that is handed to it, and nobody else reads or writes it during the call;
  *   - nobody writes a slice that is lent as `const` during the call.
- * No other value is wrong: every length, every number and any bytes are answered or refused.
+ * No other value is wrong: every length, every number and any bytes are answered or refused. MASUVELIOR_LENT helps with the first where a
+ * slice may be empty, as that of an empty std::vector. The second is what `restrict` says; the word is left out, since C++ has none and the
+ * caller's compiler gains nothing by it.
  *
  * Words: an archive has n entries, N documents and W terms. An entry is the number of a document. Entries, documents, terms and places count
  * from 0. The entries a to b are those from place a up to but without place b. The terms first to last are both included, and stand for the
  * entries from the start of the first to the end of the last.
  *
- * Refusals (the lowest that applies is given):
- *    1 to 9  the archive: 1 fewer than 40 bytes; 2 edition not 1; 3 n, N or W outside its limits (n 0 to 65,535, N and W 1 to 4,096);
- *            4 one of the three pairs differs from the layout; 5 length differs; 6 term table differs; 7 a sample is wrong;
- *            8 an unused bit is 1; 9 an entry is N or more
- *   10       a conjunction of no terms or of more than eight
- *   11       an argument outside its range, as each function says
- *   12       answer slice too short (also the reader's two slices)
- *   13       work slice too short
- *   14 to 17 the writer: 14 n, N or W outside its limits; 15 an entry N or more; 16 term lengths do not add up to n; 17 target too short
+ * Costs are given in ranks: one counts ones in a row of bits, by one sample and at most 64 bytes of the row. h is the number of rows, the
+ * smallest with 2^h at least N, so at most 12. The check on opening, which each question makes first, reads all bytes of the archive once
+ * and takes 4 * h ranks more: some 15 microseconds for an archive of 100 KB, where a question about one place takes half a microsecond.
+ * docs/BENCHMARKS.md has the times.
  */
 #ifndef MASUVELIOR_H
 #define MASUVELIOR_H
@@ -32,96 +31,185 @@
 #include <stddef.h>
 #include <stdint.h>
 
-#ifdef __cplusplus
-extern "C" {
-#endif
+/* The edition of the archive's format, and the version of this interface: the minor number rises where functions are added, the major one
+ * where a function's parameters or answers change. */
+#define MASUVELIOR_EDITION 1
+#define MASUVELIOR_VERSION_MAJOR 1
+#define MASUVELIOR_VERSION_MINOR 0
+
+/* The limits: n is 0 to MASUVELIOR_MAX_ENTRIES, N and W are 1 to these. */
+#define MASUVELIOR_MAX_ENTRIES 65535
+#define MASUVELIOR_MAX_DOCUMENTS 4096
+#define MASUVELIOR_MAX_TERMS 4096
+#define MASUVELIOR_MAX_CHOSEN 8
 
 /* The place that select answers where there is none: no entry has it. */
 #define MASUVELIOR_NONE UINT32_MAX
 
+/* How many numbers are asked for: in the answer slice of list and conjunction, in that of top-k, and in the work slice of top-k. */
+#define MASUVELIOR_LIST_LENGTH(documents) (2 * (size_t)(documents))
+#define MASUVELIOR_TOP_K_LENGTH(k, documents) (2 * (size_t)((k) < (documents) ? (k) : (documents)))
+#define MASUVELIOR_WORK_LENGTH(documents) (4 * (size_t)(documents))
+
+/* A pointer to lend for a slice that may be empty: p, or where p is NULL one that is aligned and leads to nothing, as
+ * MASUVELIOR_LENT(const uint32_t, terms.data()) in C++. The length must be 0 then. It evaluates p twice. */
+#define MASUVELIOR_LENT(type, p) ((p) ? (p) : (type *)sizeof(type))
+
+/* What is answered must be looked at: without it the out-parameters mean nothing. */
+#if defined(__GNUC__)
+#define MASUVELIOR_MUST_USE __attribute__((warn_unused_result))
+#elif defined(__cplusplus) && __cplusplus >= 201703L
+#define MASUVELIOR_MUST_USE [[nodiscard]]
+#elif defined(__STDC_VERSION__) && __STDC_VERSION__ >= 202311L
+#define MASUVELIOR_MUST_USE [[nodiscard]]
+#else
+#define MASUVELIOR_MUST_USE
+#endif
+
+#ifdef __cplusplus
+extern "C" {
+#endif
+
+/* Why an operation refused. The lowest number that applies is given. */
+enum masuvelior_refusal {
+  MASUVELIOR_OK = 0, /* not refused */
+  /* opening */
+  MASUVELIOR_REFUSED_TOO_SHORT = 1, /* fewer than 40 bytes */
+  MASUVELIOR_REFUSED_EDITION = 2, /* the edition is not 1 */
+  MASUVELIOR_REFUSED_LIMITS = 3, /* n, N or W is outside its limits */
+  MASUVELIOR_REFUSED_PAIRS = 4, /* one of the three pairs at 16, 24, 32 differs from what n, N and W give */
+  MASUVELIOR_REFUSED_LENGTH = 5, /* the archive's length differs from where the rows end */
+  MASUVELIOR_REFUSED_TERM_TABLE = 6, /* the term table differs */
+  MASUVELIOR_REFUSED_SAMPLE = 7, /* a sample is wrong */
+  MASUVELIOR_REFUSED_UNUSED_BIT = 8, /* an unused bit of a row is 1 */
+  MASUVELIOR_REFUSED_ENTRY = 9, /* an entry is N or more */
+  /* a question */
+  MASUVELIOR_REFUSED_TERM_COUNT = 10, /* a conjunction of no terms, or of more than eight */
+  MASUVELIOR_REFUSED_ARGUMENT = 11, /* an argument is outside its range */
+  /* lent slices */
+  MASUVELIOR_REFUSED_ANSWER_SLICE = 12, /* the answer slice, or one of the reader's two slices, is too short */
+  MASUVELIOR_REFUSED_WORK_SLICE = 13, /* the work slice is too short */
+  /* the writer */
+  MASUVELIOR_REFUSED_WRITER_LIMITS = 14, /* n, N or W is outside its limits */
+  MASUVELIOR_REFUSED_WRITER_ENTRY = 15, /* an entry is N or more */
+  MASUVELIOR_REFUSED_WRITER_LENGTHS = 16, /* the term lengths do not add up to n */
+  MASUVELIOR_REFUSED_WRITER_TARGET = 17 /* the target is shorter than the archive */
+};
+
 /* ---- the archive */
 
-/* Whether these bytes are an archive; its n, N and W. Refusals 1 to 9. */
+/* Whether these bytes are an archive; its n, N and W. Refusals 1 to 9.
+ * Cost: each byte once, and 4 * h ranks. */
+MASUVELIOR_MUST_USE
 uint32_t masuvelior_open(const uint8_t *archive, size_t archive_length,
                          uint32_t *n, uint32_t *documents, uint32_t *terms);
 
-/* The length in bytes of an archive of n entries, N documents and W terms. Refusal 14. */
+/* The length in bytes of an archive of n entries, N documents and W terms. Refusal 14. Cost: some steps. */
+MASUVELIOR_MUST_USE
 uint32_t masuvelior_archive_length(uint32_t n, uint32_t documents, uint32_t terms, size_t *length);
 
 /* Writes the archive of n entries, those of term 0 first, with the number of entries of each of W terms, into the front of the target, and
- * answers its length in bytes; the rest of the target is untouched. Refusals 14 to 17. */
+ * answers its length in bytes; the rest of the target is untouched. Refusals 14 to 17.
+ * Cost: h * (n + N) steps, some 3 ms at the limits. */
+MASUVELIOR_MUST_USE
 uint32_t masuvelior_write(const uint32_t *entries, size_t n, const uint32_t *lengths, size_t terms, uint32_t documents,
                           uint8_t *target, size_t target_length, size_t *length);
 
 /* Reads the n entries and the W term lengths into the front of two slices, whose rest is untouched, and answers n, N and W.
- * Refusals 1 to 9, and 12 where a slice is under n or under W numbers. */
+ * Refusals 1 to 9, and 12 where a slice is under n or under W numbers. Cost: h * (n + N) steps, some 2 ms at the limits. */
+MASUVELIOR_MUST_USE
 uint32_t masuvelior_read(const uint8_t *archive, size_t archive_length,
                          uint32_t *entries, size_t entries_length, uint32_t *lengths, size_t lengths_length,
                          uint32_t *n, uint32_t *documents, uint32_t *terms);
 
-/* ---- questions; each checks the archive first, so each has the refusals 1 to 9 beside those that it names */
+/* ---- questions; each checks the archive first, so each has the refusals 1 to 9 beside those that it names, and the cost of masuvelior_open
+ * beside its own */
 
-/* The entry at a place. 11: place n or more. */
+/* The entry at a place. 11: place n or more. Cost: 3 * h ranks. */
+MASUVELIOR_MUST_USE
 uint32_t masuvelior_access(const uint8_t *archive, size_t archive_length, uint32_t place, uint32_t *document);
 
-/* The count of a document before a place, which may be n. 11: document N or more, place above n. */
+/* The count of a document before a place, which may be n. 11: document N or more, place above n. Cost: 3 * h ranks. */
+MASUVELIOR_MUST_USE
 uint32_t masuvelior_rank(const uint8_t *archive, size_t archive_length, uint32_t document, uint32_t place, uint32_t *count);
 
-/* The place of the j-th entry of a document, j from 1, or MASUVELIOR_NONE where it has fewer. 11: document N or more, j 0. */
+/* The place of the j-th entry of a document, j from 1, or MASUVELIOR_NONE where it has fewer. 11: document N or more, j 0.
+ * Cost: 2 * h ranks, then in each row a search among its samples, by halves, and 64 bytes. */
+MASUVELIOR_MUST_USE
 uint32_t masuvelior_select(const uint8_t *archive, size_t archive_length, uint32_t document, uint32_t j, uint32_t *place);
 
-/* The document at rank r, from 0, if the entries a to b were sorted. 11: a > b, b > n, r not below b - a. */
+/* The document at rank r, from 0, if the entries a to b were sorted. 11: a > b, b > n, r not below b - a.
+ * Cost: 4 * h ranks. */
+MASUVELIOR_MUST_USE
 uint32_t masuvelior_quantile(const uint8_t *archive, size_t archive_length, uint32_t a, uint32_t b, uint32_t r, uint32_t *document);
 
-/* The same of the terms first to last. 11: first > last, a term W or more, r not below the number of their entries. */
+/* The same of the terms first to last. 11: first > last, a term W or more, r not below the number of their entries.
+ * Cost: 4 * h ranks. */
+MASUVELIOR_MUST_USE
 uint32_t masuvelior_quantile_terms(const uint8_t *archive, size_t archive_length, uint32_t first, uint32_t last, uint32_t r,
                                    uint32_t *document);
 
 /* Answers as pairs: document and count one after the other in the front of the answer slice, whose rest is untouched; `listed` is how
  * many pairs there are. */
 
-/* Every document among the entries a to b once, ascending, with its count. 11: a > b, b > n. 12: answers under 2 * N numbers. */
+/* Every document among the entries a to b once, ascending, with its count. 11: a > b, b > n. 12: answers under 2 * N numbers.
+ * Cost: 4 ranks for each node of the tree with an entry of the range in it: at most h for each document listed. */
+MASUVELIOR_MUST_USE
 uint32_t masuvelior_list(const uint8_t *archive, size_t archive_length, uint32_t a, uint32_t b,
                          uint32_t *answers, size_t answers_length, uint32_t *listed);
 
-/* The same of the terms first to last. 11: first > last, a term W or more. 12: answers under 2 * N numbers. */
+/* The same of the terms first to last, at the same cost. 11: first > last, a term W or more. 12: answers under 2 * N numbers. */
+MASUVELIOR_MUST_USE
 uint32_t masuvelior_list_terms(const uint8_t *archive, size_t archive_length, uint32_t first, uint32_t last,
                                uint32_t *answers, size_t answers_length, uint32_t *listed);
 
 /* The documents with an entry under each of the chosen terms, ascending, with the sum of their counts; a term given twice counts twice.
- * 10: no term or more than eight. 11: a term W or more. 12: answers under 2 * N numbers. */
+ * 10: no term or more than eight. 11: a term W or more. 12: answers under 2 * N numbers.
+ * Cost: 2 ranks, and 2 for each term, for each node in which every term has an entry: at most h for each document of the shortest term. */
+MASUVELIOR_MUST_USE
 uint32_t masuvelior_conjunction(const uint8_t *archive, size_t archive_length, const uint32_t *chosen, size_t chosen_length,
                                 uint32_t *answers, size_t answers_length, uint32_t *listed);
 
-/* The terms first to last as entries: from the start of the first to the end of the last. 11: first > last, a term W or more. */
+/* The terms first to last as entries: from the start of the first to the end of the last. 11: first > last, a term W or more.
+ * Cost: two numbers of the term table. */
+MASUVELIOR_MUST_USE
 uint32_t masuvelior_range_of_terms(const uint8_t *archive, size_t archive_length, uint32_t first, uint32_t last,
                                    uint32_t *from, uint32_t *to);
 
-/* count * 1,000 / size, rounded down; takes no archive. 11: size 0, count above size. */
+/* count * 1,000 / size, rounded down; takes no archive. 11: size 0, count above size. Cost: one division. */
+MASUVELIOR_MUST_USE
 uint32_t masuvelior_per_mille(uint32_t count, uint32_t size, uint32_t *rate);
 
 /* ---- top-k: the first k documents of a range by larger count, equal counts by lower number, as pairs
  *
  * After an answer the first 4 * N numbers of the work slice are 0 and the rest of it is untouched; what it held before does not matter.
- * 12: answers under 2 * min(k, N) numbers. 13: work under 4 * N numbers. */
+ * 12: answers under 2 * min(k, N) numbers (MASUVELIOR_TOP_K_LENGTH). 13: work under 4 * N numbers (MASUVELIOR_WORK_LENGTH). */
 
 /* The greedy search of the entries a to b, which may open so many nodes as the allowance says. `spent` is 0 where it is done, and `number`
  * is then the openings that were needed; `spent` is 1 where its allowance was spent first, and `number` is then the allowance: the pairs
- * listed are those of the answer's front that the allowance covers. 11: a > b, b > n. */
+ * listed are those of the answer's front that the allowance covers. 11: a > b, b > n.
+ * Cost: 4 ranks for each node opened, so at most 4 * allowance; for each node opened or document named a step in a heap of the waiting
+ * nodes; and 4 * N numbers cleared. */
+MASUVELIOR_MUST_USE
 uint32_t masuvelior_greedy_entries(const uint8_t *archive, size_t archive_length, uint32_t a, uint32_t b, uint32_t k, uint32_t allowance,
                                    uint32_t *answers, size_t answers_length, uint32_t *work, size_t work_length,
                                    uint32_t *listed, uint32_t *spent, uint32_t *number);
 
 /* The same of the terms first to last. 11: first > last, a term W or more. */
+MASUVELIOR_MUST_USE
 uint32_t masuvelior_greedy_terms(const uint8_t *archive, size_t archive_length, uint32_t first, uint32_t last, uint32_t k,
                                  uint32_t allowance, uint32_t *answers, size_t answers_length, uint32_t *work, size_t work_length,
                                  uint32_t *listed, uint32_t *spent, uint32_t *number);
 
-/* The whole answer by probing, without an allowance, of the entries a to b. 11: a > b, b > n. */
+/* The whole answer by probing, without an allowance, of the entries a to b. 11: a > b, b > n.
+ * Cost: 4 * h ranks for each probe. Where the last of k documents has count c, there are fewer than 2 * (b - a) / c probes, and never more than
+ * b - a; each new document is put into its place among the k, and 5 * N numbers are cleared. */
+MASUVELIOR_MUST_USE
 uint32_t masuvelior_probing_entries(const uint8_t *archive, size_t archive_length, uint32_t a, uint32_t b, uint32_t k,
                                     uint32_t *answers, size_t answers_length, uint32_t *work, size_t work_length, uint32_t *listed);
 
 /* The same of the terms first to last. 11: first > last, a term W or more. */
+MASUVELIOR_MUST_USE
 uint32_t masuvelior_probing_terms(const uint8_t *archive, size_t archive_length, uint32_t first, uint32_t last, uint32_t k,
                                   uint32_t *answers, size_t answers_length, uint32_t *work, size_t work_length, uint32_t *listed);
 
@@ -130,46 +218,60 @@ uint32_t masuvelior_probing_terms(const uint8_t *archive, size_t archive_length,
  * What the caller keeps beside the above: masuvelior_open answered 0 for these very bytes and this length, and they are unchanged since.
  * Then each answers, writes and refuses (10 to 13) as its namesake above. Of other bytes nothing is promised. */
 
+MASUVELIOR_MUST_USE
 uint32_t masuvelior_opened_read(const uint8_t *archive, size_t archive_length,
                                 uint32_t *entries, size_t entries_length, uint32_t *lengths, size_t lengths_length,
                                 uint32_t *n, uint32_t *documents, uint32_t *terms);
 
+MASUVELIOR_MUST_USE
 uint32_t masuvelior_opened_access(const uint8_t *archive, size_t archive_length, uint32_t place, uint32_t *document);
 
+MASUVELIOR_MUST_USE
 uint32_t masuvelior_opened_rank(const uint8_t *archive, size_t archive_length, uint32_t document, uint32_t place, uint32_t *count);
 
+MASUVELIOR_MUST_USE
 uint32_t masuvelior_opened_select(const uint8_t *archive, size_t archive_length, uint32_t document, uint32_t j, uint32_t *place);
 
+MASUVELIOR_MUST_USE
 uint32_t masuvelior_opened_quantile(const uint8_t *archive, size_t archive_length, uint32_t a, uint32_t b, uint32_t r,
                                     uint32_t *document);
 
+MASUVELIOR_MUST_USE
 uint32_t masuvelior_opened_quantile_terms(const uint8_t *archive, size_t archive_length, uint32_t first, uint32_t last, uint32_t r,
                                           uint32_t *document);
 
+MASUVELIOR_MUST_USE
 uint32_t masuvelior_opened_list(const uint8_t *archive, size_t archive_length, uint32_t a, uint32_t b,
                                 uint32_t *answers, size_t answers_length, uint32_t *listed);
 
+MASUVELIOR_MUST_USE
 uint32_t masuvelior_opened_list_terms(const uint8_t *archive, size_t archive_length, uint32_t first, uint32_t last,
                                       uint32_t *answers, size_t answers_length, uint32_t *listed);
 
+MASUVELIOR_MUST_USE
 uint32_t masuvelior_opened_conjunction(const uint8_t *archive, size_t archive_length, const uint32_t *chosen, size_t chosen_length,
                                        uint32_t *answers, size_t answers_length, uint32_t *listed);
 
+MASUVELIOR_MUST_USE
 uint32_t masuvelior_opened_range_of_terms(const uint8_t *archive, size_t archive_length, uint32_t first, uint32_t last,
                                           uint32_t *from, uint32_t *to);
 
+MASUVELIOR_MUST_USE
 uint32_t masuvelior_opened_greedy_entries(const uint8_t *archive, size_t archive_length, uint32_t a, uint32_t b, uint32_t k,
                                           uint32_t allowance, uint32_t *answers, size_t answers_length, uint32_t *work,
                                           size_t work_length, uint32_t *listed, uint32_t *spent, uint32_t *number);
 
+MASUVELIOR_MUST_USE
 uint32_t masuvelior_opened_greedy_terms(const uint8_t *archive, size_t archive_length, uint32_t first, uint32_t last, uint32_t k,
                                         uint32_t allowance, uint32_t *answers, size_t answers_length, uint32_t *work,
                                         size_t work_length, uint32_t *listed, uint32_t *spent, uint32_t *number);
 
+MASUVELIOR_MUST_USE
 uint32_t masuvelior_opened_probing_entries(const uint8_t *archive, size_t archive_length, uint32_t a, uint32_t b, uint32_t k,
                                            uint32_t *answers, size_t answers_length, uint32_t *work, size_t work_length,
                                            uint32_t *listed);
 
+MASUVELIOR_MUST_USE
 uint32_t masuvelior_opened_probing_terms(const uint8_t *archive, size_t archive_length, uint32_t first, uint32_t last, uint32_t k,
                                          uint32_t *answers, size_t answers_length, uint32_t *work, size_t work_length,
                                          uint32_t *listed);
