@@ -9,7 +9,7 @@ use std::fmt;
 /// three numbers, may be copied, and may be asked from several threads at once.
 ///
 /// ```
-/// use masuvelior::{write, Archive, Over::{Entries, Terms}, Refusal};
+/// use masuvelior::{write, Archive, Argument, Over::{Entries, Terms}, Refusal};
 ///
 /// let bytes = write(&[3, 1, 0, 3, 2, 1, 3, 0], &[3, 0, 5], 4)?;
 /// let archive = Archive::open(&bytes)?;
@@ -24,7 +24,7 @@ use std::fmt;
 /// assert_eq!(archive.conjunction(&[0, 0])?, [(0, 2), (1, 2), (3, 2)]); // a term given twice counts twice
 /// assert_eq!(archive.range_of_terms(1..=2), Ok(3..8));
 ///
-/// assert_eq!(archive.access(8), Err(Refusal::Argument));
+/// assert_eq!(archive.access(8), Err(Refusal::Argument(Argument::Place)));
 /// # Ok::<(), Refusal>(())
 /// ```
 ///
@@ -45,7 +45,7 @@ pub struct Archive<'a> {
 }
 
 impl<'a> Archive<'a> {
-    /// Checks the bytes and borrows them. They must be memory that only Rust writes: read a file, or map one that nobody else changes.
+    /// Checks the bytes and borrows them. Cost: each byte once, and 4 × h ranks. They must be memory that only Rust writes: read a file, or map one that nobody else changes.
     ///
     /// # Errors
     /// 1 to 9 of the table, where they are no archive.
@@ -96,7 +96,7 @@ impl fmt::Debug for Archive<'_> {
 
 /// The reader.
 impl Archive<'_> {
-    /// The entries, and how many of them each term has: what was given to the writer.
+    /// The entries, and how many of them each term has: what was given to the writer. Cost: h × (n + N) steps.
     pub fn read(&self) -> (Vec<u32>, Vec<u32>) {
         let mut entries = vec![0; self.entries as usize];
         let mut lengths = vec![0; self.terms as usize];

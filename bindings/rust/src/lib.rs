@@ -7,6 +7,9 @@
 //! Words: an archive has n entries, N documents and W terms, all numbered from 0. An entry is the number of the document in which a term
 //! occurs; the entries of term 0 come first. `docs/FORMAT.md` in the repository has all of it in print.
 //!
+//! Costs are given in ranks: one counts ones in a row of bits, by one sample and at most 64 bytes of the row. h is the number of rows, the
+//! smallest with 2^h at least N, so at most 12. `docs/BENCHMARKS.md` has the times.
+//!
 //! ```
 //! use masuvelior::Over::{Entries, Terms};
 //! use masuvelior::{write, Archive, Ended};
@@ -30,6 +33,7 @@
 #![deny(unsafe_op_in_unsafe_fn)]
 
 mod archive;
+mod argument;
 mod counted;
 mod per_mille;
 mod questions;
@@ -40,6 +44,7 @@ mod top_k;
 mod write;
 
 pub use archive::Archive;
+pub use argument::Argument;
 pub use counted::Counted;
 pub use per_mille::per_mille;
 pub use range::Over;

@@ -1,5 +1,6 @@
 //! The questions asked of an archive; top-k has a file of its own.
 use crate::archive::Archive;
+use crate::argument::Argument;
 use crate::counted::{numbers, room, Counted};
 use crate::range::{term_ends, Over};
 use crate::refusal::{outcome, Refusal};
@@ -8,7 +9,7 @@ use std::ops::{Range, RangeInclusive};
 
 /// Questions of one number.
 impl Archive<'_> {
-    /// The entry at a place.
+    /// The entry at a place. Cost: 3 × h ranks.
     ///
     /// # Errors
     /// 11 where the place is n or more.
@@ -17,10 +18,10 @@ impl Archive<'_> {
         let mut document = 0;
         // SAFETY: POINTERS, WRITTEN and CONST by the references; OPENED by `Archive::open`, the only maker of an `Archive`.
         let answer = unsafe { sys::masuvelior_opened_access(archive, length, place, &mut document) };
-        outcome(answer, document)
+        outcome(answer, document).map_err(|refusal| refusal.about(|| Argument::Place))
     }
 
-    /// How many entries before a place are this document; the place may be n.
+    /// How many entries before a place are this document; the place may be n. Cost: 3 × h ranks.
     ///
     /// # Errors
     /// 11 where the document is N or more, or the place is above n.
@@ -29,10 +30,11 @@ impl Archive<'_> {
         let mut count = 0;
         // SAFETY: POINTERS, WRITTEN and CONST by the references; OPENED by `Archive::open`, the only maker of an `Archive`.
         let answer = unsafe { sys::masuvelior_opened_rank(archive, length, document, place, &mut count) };
-        outcome(answer, count)
+        outcome(answer, count).map_err(|refusal| refusal.about(|| self.fault(document, Argument::Before)))
     }
 
-    /// The place of the j-th entry that is this document, j from 1, if there are so many.
+    /// The place of the j-th entry that is this document, j from 1, if there are so many. Cost: 2 × h ranks, then in each row a search
+    /// among its samples, by halves, and 64 bytes.
     ///
     /// # Errors
     /// 11 where the document is N or more, or j is 0.
@@ -42,9 +44,10 @@ impl Archive<'_> {
         // SAFETY: POINTERS, WRITTEN and CONST by the references; OPENED by `Archive::open`, the only maker of an `Archive`.
         let answer = unsafe { sys::masuvelior_opened_select(archive, length, document, j, &mut place) };
         outcome(answer, (place != sys::NONE).then_some(place))
+            .map_err(|refusal| refusal.about(|| self.fault(document, Argument::Occurrence)))
     }
 
-    /// The document at rank r, from 0, if the range were sorted.
+    /// The document at rank r, from 0, if the range were sorted. Cost: 4 × h ranks.
     ///
     /// # Errors
     /// 11 where the range is crossed or reaches past the archive, or r is not below its size.
@@ -58,10 +61,10 @@ impl Archive<'_> {
         let mut document = 0;
         // SAFETY: POINTERS, WRITTEN and CONST by the references; OPENED by `Archive::open`, the only maker of an `Archive`.
         let answer = unsafe { ask(archive, length, from, to, r, &mut document) };
-        outcome(answer, document)
+        outcome(answer, document).map_err(|refusal| refusal.about(|| over.fault(self).unwrap_or(Argument::Rank)))
     }
 
-    /// The entries of the terms first to last, from the start of the first to the end of the last.
+    /// The entries of the terms first to last, from the start of the first to the end of the last. Cost: two numbers of the term table.
     ///
     /// # Errors
     /// 11 where the terms are crossed, or one is W or more.
@@ -71,13 +74,27 @@ impl Archive<'_> {
         let (mut from, mut to) = (0, 0);
         // SAFETY: POINTERS, WRITTEN and CONST by the references; OPENED by `Archive::open`, the only maker of an `Archive`.
         let answer = unsafe { sys::masuvelior_opened_range_of_terms(archive, length, first, last, &mut from, &mut to) };
-        outcome(answer, from..to)
+        outcome(answer, from..to).map_err(|refusal| self.about_range(refusal, &Over::Terms(terms)))
+    }
+
+    /// What is wrong about a document or another argument, where one of them is.
+    fn fault(&self, document: u32, other: Argument) -> Argument {
+        if document >= self.documents() {
+            return Argument::Document;
+        }
+        other
+    }
+
+    /// A refusal with the name of what is wrong about a range.
+    pub(crate) fn about_range(&self, refusal: Refusal, over: &Over) -> Refusal {
+        refusal.about(|| over.fault(self).unwrap_or(Argument::Unnamed))
     }
 }
 
 /// Questions of documents with their counts.
 impl Archive<'_> {
-    /// Every document of the range once, ascending, with its count.
+    /// Every document of the range once, ascending, with its count. Cost: 4 ranks for each node of the tree with an entry of the range in
+    /// it, at most h for each document listed.
     ///
     /// # Errors
     /// 11 where the range is crossed or reaches past the archive.
@@ -103,12 +120,13 @@ impl Archive<'_> {
         let mut listed = 0;
         // SAFETY: POINTERS, WRITTEN and CONST by the references; OPENED by `Archive::open`, the only maker of an `Archive`.
         let answer = unsafe { ask(archive, length, from, to, pairs, pairs_length, &mut listed) };
-        outcome(answer, ())?;
+        outcome(answer, ()).map_err(|refusal| self.about_range(refusal, &over))?;
         Ok(&answers[..listed as usize])
     }
 
     /// The documents with an entry under each of one to eight terms, ascending, with the sum of their counts; a term given twice counts
-    /// twice.
+    /// twice. Cost: 2 ranks, and 2 for each term, for each node in which every term has an entry, at most h for each document of the
+    /// shortest term.
     ///
     /// # Errors
     /// 10 for no term or more than eight; 11 where a term is W or more.
@@ -139,7 +157,7 @@ impl Archive<'_> {
                 &mut listed,
             )
         };
-        outcome(answer, ())?;
+        outcome(answer, ()).map_err(|refusal| refusal.about(|| Argument::Term))?;
         Ok(&answers[..listed as usize])
     }
 }

@@ -1,4 +1,6 @@
 //! The two forms of a range: entries a to b, and terms first to last.
+use crate::archive::Archive;
+use crate::argument::Argument;
 use std::ops::{Range, RangeInclusive};
 
 /// What a question is asked over. `Entries(a..b)` are the entries from place a up to but without place b; `Terms(first..=last)` are the
@@ -20,6 +22,18 @@ impl Over {
         match self {
             Over::Entries(entries) => (entries.start, entries.end),
             Over::Terms(terms) => term_ends(terms),
+        }
+    }
+
+    /// What is wrong about it as a range of an archive, if anything is.
+    pub(crate) fn fault(&self, archive: &Archive) -> Option<Argument> {
+        let (from, to) = self.ends();
+        match self {
+            Over::Entries(_) if from > to => Some(Argument::CrossedEntries),
+            Over::Entries(_) if to > archive.entries() => Some(Argument::End),
+            Over::Terms(_) if from > to => Some(Argument::CrossedTerms),
+            Over::Terms(_) if to >= archive.terms() => Some(Argument::LastTerm),
+            _ => None,
         }
     }
 }

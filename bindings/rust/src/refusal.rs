@@ -1,4 +1,5 @@
 //! Why an operation refused: the numbers and sentences of document 01's table, as `docs/FORMAT.md` prints them.
+use crate::argument::Argument;
 use std::error::Error;
 use std::fmt;
 
@@ -14,46 +15,45 @@ use std::fmt;
 /// ```
 #[derive(Clone, Copy, Debug, PartialEq, Eq, PartialOrd, Ord, Hash)]
 #[non_exhaustive]
-#[repr(u8)]
 pub enum Refusal {
-    /// Opening: fewer than 40 bytes.
-    TooShort = 1,
-    /// Opening: the edition is not 1.
-    Edition = 2,
-    /// Opening: n, N or W is outside its limits.
-    Limits = 3,
-    /// Opening: one of the header's three pairs differs from the layout.
-    Pairs = 4,
-    /// Opening: the length differs from the layout.
-    Length = 5,
-    /// Opening: the term table differs.
-    TermTable = 6,
-    /// Opening: a sample is wrong.
-    Sample = 7,
-    /// Opening: an unused bit of a row is 1.
-    UnusedBit = 8,
-    /// Opening: an entry is N or more.
-    Entry = 9,
-    /// A question: a conjunction of no terms or of more than eight.
-    TermCount = 10,
-    /// A question: an argument is outside its range.
-    Argument = 11,
-    /// A lent slice: the one for answers is too short.
-    AnswerSlice = 12,
-    /// A lent slice: the one for work is too short.
-    WorkSlice = 13,
-    /// The writer: n, N or W is outside its limits.
-    WriterLimits = 14,
-    /// The writer: an entry is N or more.
-    WriterEntry = 15,
-    /// The writer: the term lengths do not add up to n.
-    WriterLengths = 16,
-    /// The writer: the target is shorter than the archive.
-    WriterTarget = 17,
+    /// 1, opening: fewer than 40 bytes.
+    TooShort,
+    /// 2, opening: the edition is not 1.
+    Edition,
+    /// 3, opening: n, N or W is outside its limits.
+    Limits,
+    /// 4, opening: one of the header's three pairs differs from the layout.
+    Pairs,
+    /// 5, opening: the length differs from the layout.
+    Length,
+    /// 6, opening: the term table differs.
+    TermTable,
+    /// 7, opening: a sample is wrong.
+    Sample,
+    /// 8, opening: an unused bit of a row is 1.
+    UnusedBit,
+    /// 9, opening: an entry is N or more.
+    Entry,
+    /// 10, a question: a conjunction of no terms or of more than eight.
+    TermCount,
+    /// 11, a question: an argument is outside its range, and which.
+    Argument(Argument),
+    /// 12, a lent slice: the one for answers, or one of the reader's two, is too short.
+    AnswerSlice,
+    /// 13, a lent slice: the one for work is too short.
+    WorkSlice,
+    /// 14, the writer: n, N or W is outside its limits.
+    WriterLimits,
+    /// 15, the writer: an entry is N or more.
+    WriterEntry,
+    /// 16, the writer: the term lengths do not add up to n.
+    WriterLengths,
+    /// 17, the writer: the target is shorter than the archive.
+    WriterTarget,
 }
 
 impl Refusal {
-    /// Every refusal, by number.
+    /// Every refusal, by number; the argument of 11 has no name there.
     pub const ALL: [Refusal; 17] = [
         Refusal::TooShort,
         Refusal::Edition,
@@ -65,7 +65,7 @@ impl Refusal {
         Refusal::UnusedBit,
         Refusal::Entry,
         Refusal::TermCount,
-        Refusal::Argument,
+        Refusal::Argument(Argument::Unnamed),
         Refusal::AnswerSlice,
         Refusal::WorkSlice,
         Refusal::WriterLimits,
@@ -76,7 +76,7 @@ impl Refusal {
 
     /// Its number in the table, 1 to 17.
     pub fn number(self) -> u32 {
-        self as u32
+        self.row().0
     }
 
     /// The refusal of a number, if the table has it.
@@ -85,33 +85,51 @@ impl Refusal {
         Refusal::ALL.get(index as usize).copied()
     }
 
-    /// Its sentence in the table.
+    /// Its sentence in the table. What a refusal prints has the wrong argument behind it, where there is one.
     pub fn sentence(self) -> &'static str {
+        self.row().1
+    }
+
+    /// Its row of the table.
+    fn row(self) -> (u32, &'static str) {
         match self {
-            Refusal::TooShort => "fewer than 40 bytes",
-            Refusal::Edition => "the edition is not 1",
-            Refusal::Limits => "n, N or W is outside its limits",
-            Refusal::Pairs => "one of the three pairs at 16, 24, 32 differs from what n, N and W give",
-            Refusal::Length => "the archive's length differs from where the rows end",
-            Refusal::TermTable => "the term table differs: a term does not start where the one before ends, or the last does not end at n",
-            Refusal::Sample => "a sample is wrong",
-            Refusal::UnusedBit => "an unused bit of a row is 1",
-            Refusal::Entry => "an entry is N or more",
-            Refusal::TermCount => "a conjunction of no terms, or of more than eight",
-            Refusal::Argument => "a > b; b > n; f > l; a term that is W or more; a document that is N or more; an entry place that is n or more; p > n; j = 0; a rank not below the range's size; per mille with size 0 or a count above the size",
-            Refusal::AnswerSlice => "the answer slice has under 2 × min(k, N) numbers (top-k) or 2 × N (list, conjunction); the reader's lists have under n or W numbers",
-            Refusal::WorkSlice => "the work slice has under 4 × N numbers (top-k)",
-            Refusal::WriterLimits => "n, N or W is outside its limits",
-            Refusal::WriterEntry => "an entry is N or more",
-            Refusal::WriterLengths => "the term lengths do not add up to n",
-            Refusal::WriterTarget => "the target is shorter than the archive",
+            Refusal::TooShort => (1, "fewer than 40 bytes"),
+            Refusal::Edition => (2, "the edition is not 1"),
+            Refusal::Limits => (3, "n, N or W is outside its limits"),
+            Refusal::Pairs => (4, "one of the three pairs at 16, 24, 32 differs from what n, N and W give"),
+            Refusal::Length => (5, "the archive's length differs from where the rows end"),
+            Refusal::TermTable => (6, "the term table differs"),
+            Refusal::Sample => (7, "a sample is wrong"),
+            Refusal::UnusedBit => (8, "an unused bit of a row is 1"),
+            Refusal::Entry => (9, "an entry is N or more"),
+            Refusal::TermCount => (10, "a conjunction of no terms, or of more than eight"),
+            Refusal::Argument(_) => (11, "an argument is outside its range"),
+            Refusal::AnswerSlice => (12, "the answer slice, or one of the reader's two slices, is too short"),
+            Refusal::WorkSlice => (13, "the work slice is too short"),
+            Refusal::WriterLimits => (14, "n, N or W is outside its limits"),
+            Refusal::WriterEntry => (15, "an entry is N or more"),
+            Refusal::WriterLengths => (16, "the term lengths do not add up to n"),
+            Refusal::WriterTarget => (17, "the target is shorter than the archive"),
+        }
+    }
+
+    /// The same, with a name for the argument where it is one that is refused.
+    pub(crate) fn about(self, argument: impl FnOnce() -> Argument) -> Refusal {
+        match self {
+            Refusal::Argument(_) => Refusal::Argument(argument()),
+            other => other,
         }
     }
 }
 
 impl fmt::Display for Refusal {
     fn fmt(&self, f: &mut fmt::Formatter<'_>) -> fmt::Result {
-        f.write_str(self.sentence())
+        f.write_str(self.sentence())?;
+        match self {
+            Refusal::Argument(Argument::Unnamed) => Ok(()),
+            Refusal::Argument(argument) => write!(f, ": {argument}"),
+            _ => Ok(()),
+        }
     }
 }
 

@@ -22,7 +22,8 @@ pub enum Ended {
 
 /// Top-k: the first k documents of a range by larger count, equal counts by lower number.
 impl Archive<'_> {
-    /// The greedy search, which may open so many nodes as the allowance says.
+    /// The greedy search, which may open so many nodes as the allowance says. Cost: 4 ranks for each node opened; for each node opened or
+    /// document named a step in a heap of the waiting nodes; and 4 × N numbers cleared.
     ///
     /// ```
     /// use masuvelior::{write, Archive, Ended, Over::Entries};
@@ -103,7 +104,7 @@ impl Archive<'_> {
                 &mut number,
             )
         };
-        outcome(answer, ())?;
+        outcome(answer, ()).map_err(|refusal| self.about_range(refusal, &over))?;
         let ended = match spent {
             0 => Ended::Done { openings: number },
             _ => Ended::Spent { allowance: number },
@@ -111,7 +112,9 @@ impl Archive<'_> {
         Ok((&answers[..listed as usize], ended))
     }
 
-    /// The whole answer by probing, without an allowance.
+    /// The whole answer by probing, without an allowance. Cost: 4 × h ranks for each probe. Where the last of k documents has count c,
+    /// there are fewer than 2 × size / c probes of a range of that size, and never more than size; each new document is put into its place
+    /// among the k, and 5 × N numbers are cleared.
     ///
     /// ```
     /// use masuvelior::{write, Archive, Over::Entries};
@@ -155,7 +158,7 @@ impl Archive<'_> {
         let answer = unsafe {
             ask(archive, archive_length, from, to, k, pairs, pairs_length, work.as_mut_ptr(), work.len(), &mut listed)
         };
-        outcome(answer, ())?;
+        outcome(answer, ()).map_err(|refusal| self.about_range(refusal, &over))?;
         Ok(&answers[..listed as usize])
     }
 

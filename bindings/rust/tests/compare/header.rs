@@ -1,4 +1,6 @@
-//! The declarations in `src/sys.rs` are those of the C header, all of them, and so is what it cites.
+//! The declarations in `src/sys.rs` are those of the C header, all of them, and so is what it cites. The header's refusals and its version are
+//! the crate's.
+use masuvelior::Refusal;
 
 const HEADER: &str = include_str!("../../../c/masuvelior.h");
 const DECLARED: &str = include_str!("../../src/sys.rs");
@@ -59,4 +61,36 @@ fn sentences_of_the_header() {
     for sentence in cited {
         assert!(header.contains(&words(sentence)), "the header has no: {sentence}");
     }
+}
+
+/// A name of Rust as C writes it: `TooShort` is TOO_SHORT.
+fn upper(name: &str) -> String {
+    let mut upper = String::new();
+    for letter in name.chars() {
+        if letter.is_uppercase() && !upper.is_empty() {
+            upper.push('_');
+        }
+        upper.push(letter.to_ascii_uppercase());
+    }
+    upper
+}
+
+#[test]
+fn refusals_of_the_header() {
+    for refusal in Refusal::ALL {
+        let name = format!("{refusal:?}");
+        let name = upper(name.split('(').next().unwrap());
+        let (number, sentence) = (refusal.number(), refusal.sentence());
+        let comma = if number < 17 { "," } else { "" };
+        let line = format!("MASUVELIOR_REFUSED_{name} = {number}{comma} /* {sentence} */");
+        assert!(HEADER.contains(&line), "the header has no: {line}");
+    }
+    assert_eq!(HEADER.matches("MASUVELIOR_REFUSED_").count(), 17);
+}
+
+#[test]
+fn version_of_the_header() {
+    let (major, minor) = (env!("CARGO_PKG_VERSION_MAJOR"), env!("CARGO_PKG_VERSION_MINOR"));
+    assert!(HEADER.contains(&format!("#define MASUVELIOR_VERSION_MAJOR {major}\n")));
+    assert!(HEADER.contains(&format!("#define MASUVELIOR_VERSION_MINOR {minor}\n")));
 }

@@ -1,6 +1,7 @@
 //! Every operation beside a plain model, on random, boundary and damaged inputs: through the crate, and through the C names that it rests on.
 //!
 //! MASUVELIOR_QUICK=1 makes all rounds shorter, for slow runs as under valgrind.
+mod arguments;
 mod ask;
 mod compare;
 mod damage;

@@ -1,19 +1,53 @@
 //! What `docs/FORMAT.md` prints: the refusals' sentences, and the answers for its libraries.
 use masuvelior::Over::{Entries, Terms};
-use masuvelior::{per_mille, write, Archive, Ended, Refusal};
+use masuvelior::{per_mille, write, Archive, Argument, Ended, Refusal};
 
 const FORMAT: &str = include_str!("../../../../docs/FORMAT.md");
+
+/// The page with each run of spaces and line feeds as one space.
+fn words() -> String {
+    FORMAT.split_whitespace().collect::<Vec<_>>().join(" ")
+}
 
 #[test]
 fn sentences_are_those_in_print() {
     for (number, refusal) in (1..).zip(Refusal::ALL) {
         assert_eq!(refusal.number(), number);
         assert_eq!(Refusal::from_number(number), Some(refusal));
-        let line = format!("{number} {refusal}");
+        let line = format!("| {number} | {refusal} |");
         assert!(FORMAT.contains(&line), "docs/FORMAT.md has no: {line}");
     }
     assert_eq!(Refusal::from_number(0), None);
     assert_eq!(Refusal::from_number(18), None);
+    for argument in Argument::ALL {
+        assert!(words().contains(argument.sentence()), "docs/FORMAT.md has no: {argument}");
+    }
+}
+
+/// The bytes of a dump of the page.
+fn dump(name: &str) -> Vec<u8> {
+    let first = format!("{name}: ");
+    let lines = FORMAT.lines().skip_while(|line| !line.starts_with(&first)).skip(1);
+    let bytes = lines.take_while(|line| !line.is_empty() && !line.starts_with("```"));
+    let digits = bytes.flat_map(|line| line.split_whitespace().skip(1)).filter(|word| word.len() == 2);
+    digits.map(|byte| u8::from_str_radix(byte, 16).unwrap()).collect()
+}
+
+#[test]
+fn dumps_are_what_is_written() -> Result<(), Refusal> {
+    let many: Vec<u32> = (0..600).map(|i| (5 * i + i / 9) % 7).collect();
+    let libraries: [(_, &[u32], &[u32], _); 6] = [
+        ("S", &[3, 1, 0, 3, 2, 1, 3, 0], &[3, 0, 5], 4),
+        ("T", &many, &[200, 400], 7),
+        ("L", &[4, 0, 2, 4, 1], &[3, 2], 5),
+        ("D", &[2, 5], &[2], 8),
+        ("O", &[0; 3], &[3], 1),
+        ("E", &[], &[0, 0], 5),
+    ];
+    for (name, entries, lengths, documents) in libraries {
+        assert_eq!(write(entries, lengths, documents)?, dump(name), "the dump {name}");
+    }
+    Ok(())
 }
 
 #[test]
@@ -105,7 +139,7 @@ fn exhausted_terms() -> Result<(), Refusal> {
     let mut terms = 0..=1;
     assert_eq!(archive.range_of_terms(terms.clone())?, 0..2);
     assert_eq!(terms.by_ref().count(), 2);
-    assert_eq!(archive.range_of_terms(terms.clone()), Err(Refusal::Argument));
-    assert_eq!(archive.list(Terms(terms)), Err(Refusal::Argument));
+    assert_eq!(archive.range_of_terms(terms.clone()), Err(Refusal::Argument(Argument::CrossedTerms)));
+    assert_eq!(archive.list(Terms(terms)), Err(Refusal::Argument(Argument::CrossedTerms)));
     Ok(())
 }
