@@ -108,32 +108,41 @@ shortened() {
     }' | sed 's/ ;/;/g'
 }
 
-# What was written under a name is the dump of that name: both are archives, and an archive is what it reads as.
-check_written() {
-    wrote[$1]=$2
-    length[$1]=$3
-    [ -n "${dump[$1]-}" ] || return 0
-    local written read='read lent 128 128'
-    made=$2
-    written=$(answer_of "$read")
-    make_archive "$1"
-    [ "$written" = "$(answer_of "$read")" ] || differs "dump $1 is not what is written"
+# A line with `write`: its answer, and behind it the bytes of the target that are not the archive's. What is written under the name of a dump has its bytes.
+try_write() {
+    local name=$1 question=$2 room written behind
+    made=''
+    found=$(answer_of "$question")
+    read -r _ _ room _ <<<"$question"
+    written=${found##refused*}
+    made=$question
+    behind=$((room - ${written:-0}))
+    [ "$behind" -eq 0 ] || found+="; $(answer_of "bytes $behind")"
+    [ "$name" != - ] || return 0
+    wrote[$name]=$question
+    length[$name]=$written
+    [ -n "${dump[$name]-}" ] || return 0
+    made+=$'\n''cut 0'
+    [ "$(answer_of "bytes $written")" = "${dump[$name]}" ] || differs "dump $name is not what is written"
 }
 
 # One line of the tests: archive, question, answer.
 try() {
-    local archive=${1%% | *} rest=${1#* | } question answer found short
+    local archive=${1%% | *} rest=${1#* | } question answer short
     question=${rest%% |*}
     answer=${rest#* | }
-    if [[ $question = write* ]]; then made=''; else make_archive $archive; fi
-    found=$(answer_of "$question")
+    if [[ $question = write* ]]; then
+        try_write "$archive" "$question"
+    else
+        make_archive $archive
+        found=$(answer_of "$question")
+    fi
     short=$(shortened "$found")
     if [ "$fill" = yes ]; then
         echo "$archive | $question | $short"
     elif [ "$short" != "$answer" ]; then
         differs "$1: found $short"
     fi
-    if [[ $question = write* && $archive != - ]]; then check_written "$archive" "$question" "$found"; fi
 }
 
 fill=no

@@ -1,18 +1,18 @@
-// Lines that make an archive, behind 16 bytes. Each prints and answers the archive's length in bytes.
+// Lines that make an archive, behind 16 bytes. Each prints and answers the archive's length in bytes, 0 where it is refused.
 use crate::show::number;
 use crate::show::refused;
 use slices::at;
-use slices::clear_bytes;
+use slices::fill_bytes;
 use slices::low;
 use slices::plus;
 use slices::put_byte;
 use writer::Written;
 
-// write ROOM N n ENTRIES W LENGTHS.
+// write ROOM N n ENTRIES W LENGTHS. All bytes are 9 before.
 pub fn write(numbers: &[u32], bytes: &mut [u8]) -> u32 {
     let start = 16;
     let end = 16 + at(numbers, 0) as usize;
-    clear_bytes(bytes, 131088);
+    fill_bytes(bytes, 131088, 9);
     if bytes.len() < end {
         return 0;
     }

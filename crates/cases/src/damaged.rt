@@ -12,7 +12,7 @@ pub struct Part {
     pub mask: u32,
 }
 
-// open SIZE BYTE MASK; report F L K ALLOWANCE SIZE BYTE MASK; all others are asked of the whole archive.
+// open SIZE BYTE MASK; report F L K ALLOWANCE SIZE BYTE MASK; bytes SIZE, those behind the archive; all others are asked of the whole archive.
 pub fn part_of(q: Question, size: u32) -> Part {
     let kind = q.kind;
     match kind {
@@ -27,6 +27,12 @@ pub fn part_of(q: Question, size: u32) -> Part {
             size: q.e,
             byte: q.f,
             mask: q.g,
+        },
+        20 => Part {
+            start: plus(16, size),
+            size: q.a,
+            byte: 0,
+            mask: 0,
         },
         _ => Part {
             start: 16,

@@ -23,6 +23,7 @@ fn ask_part(q: Question, archive: &[u8]) {
         5..=9 => show::answer(number(q, archive)),
         10 => show::placed(queries::select(archive, q.a, q.b)),
         11 => show::range(queries::range_of_terms(archive, q.a, q.b)),
+        20 => show::bytes(archive),
         _ => ask_lent(q, archive),
     }
 }

@@ -42,6 +42,18 @@ pub fn lent(xs: &[u32; 128], size: u32) {
     }
 }
 
+fn byte(x: u8) {
+    next(x as u32);
+}
+
+pub fn bytes(xs: &[u8]) {
+    let mut i = 0;
+    while i < xs.len() {
+        byte(xs[i]);
+        i += 1;
+    }
+}
+
 pub fn answer(found: Answer) {
     match found {
         Answer::Number(x) => number(x),

@@ -24,10 +24,11 @@ pub fn put_one(bytes: &mut [u8], from: u32, i: u32) {
     }
 }
 
-pub fn clear_bytes(bytes: &mut [u8], size: u32) {
+// The first so many bytes become x.
+pub fn fill_bytes(bytes: &mut [u8], size: u32, x: u8) {
     let mut i = 0;
     while i < size {
-        put_byte(bytes, i, 0);
+        put_byte(bytes, i, x);
         i += 1;
     }
 }

@@ -2,7 +2,7 @@
 mod bytes;
 mod numbers;
 
-pub use bytes::clear_bytes;
+pub use bytes::fill_bytes;
 pub use bytes::put_byte;
 pub use bytes::put_number;
 pub use bytes::put_one;

@@ -1,16 +1,16 @@
--- `clear_bytes`: the lent slice keeps its length, and the counter moves to its bound.
+-- `fill_bytes`: the lent slice keeps its length, and the counter moves to its bound.
 use Prim.Native.Nat.{_-_}
 use lib.ListN.{length}
 use mathlib.Core.Path.{_≡_}
 use borrow.Author.Needs.{needs}
-use Rattle.slices.proofs.bytes.clear_bytes.Statement.{statement}
-use Rattle.slices.proofs.bytes.clear_bytes.Tie as tie
+use Rattle.slices.proofs.bytes.fill_bytes.Statement.{statement}
+use Rattle.slices.proofs.bytes.fill_bytes.Tie as tie
 
 abbrev Inv-loop : tie.InvT-loop
-Inv-loop bytes₀ size i₀ bytes i = length bytes ≡ length bytes₀
+Inv-loop bytes₀ size x i₀ bytes i = length bytes ≡ length bytes₀
 
 abbrev μ-loop : tie.MeasureT-loop
-μ-loop bytes₀ size i₀ bytes i = size - i
+μ-loop bytes₀ size x i₀ bytes i = size - i
 
 loop-holds : tie.Need-loop-holds Inv-loop μ-loop
 loop-holds c = search needs
@@ -33,8 +33,8 @@ same-length c = search needs
 returns : tie.Need-returns Inv-loop μ-loop
 returns c = search needs
 
-pub clear-bytes-spec : {M : Type 1} → statement M
-clear-bytes-spec =
+pub fill-bytes-spec : {M : Type 1} → statement M
+fill-bytes-spec =
     tie.close
     (tie.spec
     Inv-loop
