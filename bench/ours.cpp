@@ -3,6 +3,7 @@
 //   1  with the check of the archive first, as each question by the book
 #include "../bindings/c/masuvelior.h"
 #include "abi.h"
+#include <stdlib.h>
 
 #if CHECKED
 #define ASK(f) masuvelior_##f
@@ -11,6 +12,11 @@
 #endif
 #define F(f) JOIN(OURS, f)
 typedef uint32_t u32;
+
+// The harness asks nothing that is refused.
+static inline void answered(u32 refusal) {
+  if (refusal != MASUVELIOR_OK) abort();
+}
 
 extern "C" {
 DECLARE_OPERATIONS
@@ -28,55 +34,55 @@ size_t F(write)(const u32 *entries, size_t n, const u32 *lengths, size_t terms, 
 
 void F(read)(LEVELS_UNUSED, size_t, u32 *entries, size_t entries_len, u32 *lengths, size_t terms) {
   u32 size[3];
-  ASK(read)(bytes, len, entries, entries_len, lengths, terms, size, size + 1, size + 2);
+  answered(ASK(read)(bytes, len, entries, entries_len, lengths, terms, size, size + 1, size + 2));
 }
 
 size_t F(access)(LEVELS_UNUSED, size_t i) {
   u32 document = 0;
-  ASK(access)(bytes, len, (u32)i, &document);
+  answered(ASK(access)(bytes, len, (u32)i, &document));
   return document;
 }
 
 size_t F(rank)(LEVELS_UNUSED, size_t d, size_t i) {
   u32 count = 0;
-  ASK(rank)(bytes, len, (u32)d, (u32)i, &count);
+  answered(ASK(rank)(bytes, len, (u32)d, (u32)i, &count));
   return count;
 }
 
 size_t F(select)(LEVELS, size_t d, size_t i) {
   (void)height, (void)samples, (void)rows;
   u32 place = 0;
-  ASK(select)(bytes, len, (u32)d, (u32)i, &place);
+  answered(ASK(select)(bytes, len, (u32)d, (u32)i, &place));
   return place == MASUVELIOR_NONE ? n : place;
 }
 
 size_t F(quantile)(LEVELS_UNUSED, size_t a, size_t b, size_t r) {
   u32 document = 0;
-  ASK(quantile)(bytes, len, (u32)a, (u32)b, (u32)r, &document);
+  answered(ASK(quantile)(bytes, len, (u32)a, (u32)b, (u32)r, &document));
   return document;
 }
 
 size_t F(list)(LEVELS_UNUSED, size_t, size_t a, size_t b, u32 *answers, size_t answers_len) {
   u32 listed = 0;
-  ASK(list)(bytes, len, (u32)a, (u32)b, answers, answers_len, &listed);
+  answered(ASK(list)(bytes, len, (u32)a, (u32)b, answers, answers_len, &listed));
   return listed;
 }
 
 size_t F(conjunction)(LEVELS_UNUSED, size_t, size_t, const u32 *chosen, u32 size, u32 *answers, size_t answers_len) {
   u32 listed = 0;
-  ASK(conjunction)(bytes, len, chosen, size, answers, answers_len, &listed);
+  answered(ASK(conjunction)(bytes, len, chosen, size, answers, answers_len, &listed));
   return listed;
 }
 
 uint64_t F(greedy)(LEVELS_UNUSED, size_t, size_t a, size_t b, u32 k, u32 allowance, u32 *answers, size_t answers_len, u32 *work, size_t work_len) {
   u32 listed = 0, spent = 0, number = 0;
-  ASK(greedy_entries)(bytes, len, (u32)a, (u32)b, k, allowance, answers, answers_len, work, work_len, &listed, &spent, &number);
+  answered(ASK(greedy_entries)(bytes, len, (u32)a, (u32)b, k, allowance, answers, answers_len, work, work_len, &listed, &spent, &number));
   return (uint64_t)spent << 63 | (uint64_t)number << 32 | listed;
 }
 
 size_t F(probing)(LEVELS_UNUSED, size_t, size_t a, size_t b, u32 k, u32 *answers, size_t answers_len, u32 *work, size_t work_len) {
   u32 listed = 0;
-  ASK(probing_entries)(bytes, len, (u32)a, (u32)b, k, answers, answers_len, work, work_len, &listed);
+  answered(ASK(probing_entries)(bytes, len, (u32)a, (u32)b, k, answers, answers_len, work, work_len, &listed));
   return listed;
 }
 }
