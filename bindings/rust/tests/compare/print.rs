@@ -36,13 +36,16 @@ fn dump(name: &str) -> Vec<u8> {
 #[test]
 fn dumps_are_what_is_written() -> Result<(), Refusal> {
     let many: Vec<u32> = (0..600).map(|i| (5 * i + i / 9) % 7).collect();
-    let libraries: [(_, &[u32], &[u32], _); 6] = [
+    let each: Vec<u32> = (0..300).collect();
+    let libraries: [(_, &[u32], &[u32], _); 8] = [
         ("S", &[3, 1, 0, 3, 2, 1, 3, 0], &[3, 0, 5], 4),
         ("T", &many, &[200, 400], 7),
         ("L", &[4, 0, 2, 4, 1], &[3, 2], 5),
         ("D", &[2, 5], &[2], 8),
         ("O", &[0; 3], &[3], 1),
         ("E", &[], &[0, 0], 5),
+        ("H", &[1; 1025], &[1025], 2),
+        ("M", &each, &[300], 300),
     ];
     for (name, entries, lengths, documents) in libraries {
         assert_eq!(write(entries, lengths, documents)?, dump(name), "the dump {name}");
