@@ -64,6 +64,7 @@ make_archive() {
         first) bytes=("${bytes[@]:0:$2}") && shift ;;
         and) bytes+=($((16#$2))) && shift ;;
         *=*) bytes[${1%=*}]=$((16#${1#*=})) ;;
+        *) differs "no such change: $1" ;;
         esac
         shift
     done
@@ -71,9 +72,14 @@ make_archive() {
     made="archive $size bytes ${bytes[*]-}"
 }
 
-# The same of an archive that a test wrote; `and 00` is its one change.
+# The same of an archive that a test wrote. Its one change is `and 09`: the byte behind it, which was 9 before.
 make_written() {
-    size=$((length[$1] + ($# - 1) / 2))
+    size=${length[$1]}
+    case ${*:2} in
+    '') ;;
+    'and 09') size=$((size + 1)) ;;
+    *) differs "no such change of a written archive: ${*:2}" ;;
+    esac
     made="${wrote[$1]}"$'\n'"cut $size"
 }
 
@@ -127,6 +133,7 @@ try_write() {
 }
 
 # One line of the tests: archive, question, answer.
+tried=0
 try() {
     local archive=${1%% | *} rest=${1#* | } question answer short
     question=${rest%% |*}
@@ -137,6 +144,7 @@ try() {
         make_archive $archive
         found=$(answer_of "$question")
     fi
+    tried=$((tried + 1))
     short=$(shortened "$found")
     if [ "$fill" = yes ]; then
         echo "$archive | $question | $short"
@@ -155,4 +163,5 @@ while IFS= read -r line; do
     *) try "$line" ;;
     esac
 done <"$tests"
+[ "$tried" -gt 0 ] || differs "no tests"
 exit "$failed"
