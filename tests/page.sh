@@ -163,5 +163,5 @@ while IFS= read -r line; do
     *) try "$line" ;;
     esac
 done <"$tests"
-[ "$tried" -gt 0 ] || differs "no tests"
+tr "\n" " " <"$page" | grep -q "there are $tried tests" || differs "it does not say that there are $tried tests"
 exit "$failed"

@@ -87,7 +87,7 @@ enum masuvelior_refusal {
   MASUVELIOR_REFUSED_TERM_COUNT = 10, /* a conjunction of no terms, or of more than eight */
   MASUVELIOR_REFUSED_ARGUMENT = 11, /* an argument is outside its range */
   /* lent slices */
-  MASUVELIOR_REFUSED_ANSWER_SLICE = 12, /* the answer slice, or one of the reader's two slices, is too short */
+  MASUVELIOR_REFUSED_ANSWER_SLICE = 12, /* the answer slice, or one of read's two slices, is too short */
   MASUVELIOR_REFUSED_WORK_SLICE = 13, /* the work slice is too short */
   /* the writer */
   MASUVELIOR_REFUSED_WRITER_LIMITS = 14, /* n, N or W is outside its limits */

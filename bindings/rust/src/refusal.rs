@@ -104,7 +104,7 @@ impl Refusal {
             Refusal::Entry => (9, "an entry is N or more"),
             Refusal::TermCount => (10, "a conjunction of no terms, or of more than eight"),
             Refusal::Argument(_) => (11, "an argument is outside its range"),
-            Refusal::AnswerSlice => (12, "the answer slice, or one of the reader's two slices, is too short"),
+            Refusal::AnswerSlice => (12, "the answer slice, or one of read's two slices, is too short"),
             Refusal::WorkSlice => (13, "the work slice is too short"),
             Refusal::WriterLimits => (14, "n, N or W is outside its limits"),
             Refusal::WriterEntry => (15, "an entry is N or more"),
