@@ -37,7 +37,7 @@
 #define MASUVELIOR_VERSION_MAJOR 1
 #define MASUVELIOR_VERSION_MINOR 0
 
-/* The limits: n is 0 to MASUVELIOR_MAX_ENTRIES, N and W are 1 to these. */
+/* The limits: n is 0 to MASUVELIOR_MAX_ENTRIES, N and W are 1 to theirs, and a conjunction has 1 to MASUVELIOR_MAX_CHOSEN terms. */
 #define MASUVELIOR_MAX_ENTRIES 65535
 #define MASUVELIOR_MAX_DOCUMENTS 4096
 #define MASUVELIOR_MAX_TERMS 4096

@@ -23,7 +23,9 @@ std::vector<uint8_t> without_entries() {
   const std::vector<uint32_t> entries, lengths = {0, 0};
   std::vector<uint8_t> archive(64);
   size_t length = 0;
-  expect("write without entries", masuvelior_write(lent(entries), entries.size(), lent(lengths), lengths.size(), 5, lent(archive), archive.size(), &length) == MASUVELIOR_OK);
+  const uint32_t written = masuvelior_write(lent(entries), entries.size(), lent(lengths), lengths.size(), 5,
+                                            lent(archive), archive.size(), &length);
+  expect("write without entries", written == MASUVELIOR_OK);
   archive.resize(length);
   return archive;
 }
@@ -31,11 +33,15 @@ std::vector<uint8_t> without_entries() {
 void ask(std::vector<uint8_t> &archive) {
   uint32_t n = 9, documents = 9, terms = 9, listed = 9, spent = 9, number = 9;
   std::vector<uint32_t> none, lengths(2, 9), work(MASUVELIOR_WORK_LENGTH(5), 9);
-  const uint32_t read = masuvelior_read(lent(archive), archive.size(), lent(none), none.size(), lent(lengths), lengths.size(), &n, &documents, &terms);
-  expect("read without entries", read == MASUVELIOR_OK && n == 0 && documents == 5 && terms == 2 && lengths[0] == 0 && lengths[1] == 0);
-  const uint32_t conjunction = masuvelior_conjunction(lent(archive), archive.size(), lent(none), none.size(), lent(none), none.size(), &listed);
+  const uint32_t read = masuvelior_read(lent(archive), archive.size(), lent(none), none.size(), lent(lengths), lengths.size(),
+                                        &n, &documents, &terms);
+  expect("read without entries", read == MASUVELIOR_OK && n == 0 && documents == 5 && terms == 2);
+  expect("lengths without entries", lengths[0] == 0 && lengths[1] == 0);
+  const uint32_t conjunction = masuvelior_conjunction(lent(archive), archive.size(), lent(none), none.size(),
+                                                      lent(none), none.size(), &listed);
   expect("no terms", conjunction == MASUVELIOR_REFUSED_TERM_COUNT && listed == 9);
-  const uint32_t greedy = masuvelior_greedy_entries(lent(archive), archive.size(), 0, 0, 0, 0, lent(none), none.size(), lent(work), work.size(), &listed, &spent, &number);
+  const uint32_t greedy = masuvelior_greedy_entries(lent(archive), archive.size(), 0, 0, 0, 0, lent(none), none.size(),
+                                                    lent(work), work.size(), &listed, &spent, &number);
   expect("no documents asked for", greedy == MASUVELIOR_OK && listed == 0 && spent == 0 && number == 0 && work[19] == 0);
 }
 
@@ -47,6 +53,6 @@ int main() {
   expect("no bytes", masuvelior_open(lent(empty), empty.size(), &n, &documents, &terms) == MASUVELIOR_REFUSED_TOO_SHORT);
   std::vector<uint8_t> archive = without_entries();
   ask(archive);
-  expect("lengths", MASUVELIOR_TOP_K_LENGTH(UINT32_MAX, 4u) == 8 && MASUVELIOR_TOP_K_LENGTH(3, 4) == 6 && MASUVELIOR_LIST_LENGTH(4) == 8);
+  expect("macros of lengths", MASUVELIOR_TOP_K_LENGTH(UINT32_MAX, 4u) == 8 && MASUVELIOR_TOP_K_LENGTH(3, 4) == 6 && MASUVELIOR_LIST_LENGTH(4) == 8);
   return failed;
 }
