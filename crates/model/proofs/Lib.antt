@@ -10,6 +10,9 @@ pub mod Ranking
 pub mod Pairs
 pub mod Listed
 pub mod Greedy
+pub mod FullList
+pub mod Covering
 pub mod Probing
+pub mod Weighted
 pub mod Papers
 pub mod Questions

@@ -55,7 +55,7 @@ pub data Reply : Type 0 where
   searchIs : SearchResult Ended → Reply
   openingIs : Outcome Sizes → Reply
 
-abbrev nines : ℕ → List ℕ
+abbrev pub nines : ℕ → List ℕ
 nines n = replicate n 9
 
 abbrev pub ask : List ℕ → Question → Reply
@@ -125,7 +125,7 @@ cases = refl
 -- ---- the other cases of the table
 
 -- one document, which has no rows
-abbrev lone : Library
+abbrev pub lone : Library
 lone = record { documents = 1; lengths = 3 ∷ []; entries = 0 ∷ 0 ∷ 0 ∷ [] }
 
 abbrev others : List Reply

@@ -1,5 +1,5 @@
 -- Demand 3 as one record, with a field for each of its sentences. `top_k/proofs/Demand3/Theorem` draws it from what the operations promise.
-use Prim.Native.Nat.{ℕ, _≤_, _<_, min}
+use Prim.Native.Nat.{ℕ, _*_, _≤_, _<_, min}
 use mathlib.Core.Path.{_≡_}
 use mathlib.Core.Logic.{_⊎_}
 use mathlib.Core.List.{List, [], _∷_}
@@ -25,6 +25,11 @@ abbrev pub figure : Outcome Ended → ℕ
 figure (answered (doneWith listed openings)) = openings
 figure (answered (spentWith listed allowance)) = allowance
 figure (refused number) = 0
+
+-- lent slices as long as document 01 asks
+pub record Room (N k : ℕ) (out work : List ℕ) : Type 0 where
+  pub answers : 2 * min k N ≤ length out
+  pub working : 4 * N ≤ length work
 
 -- of a range's entries xs in a library of N documents (sheets): what the greedy search leaves where `out` was lent for the answers, and what
 -- probing leaves where `out′` was

@@ -9,8 +9,11 @@ pub mod Queries
 pub mod Papers
 pub mod TopK
 pub mod Search
+pub mod Weighted
 pub mod Probing
 pub mod Frontier
 pub mod Demand2
 pub mod Demand3
+pub mod WeightedDemand
 pub mod Cases
+pub mod WeightedCases

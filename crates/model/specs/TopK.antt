@@ -91,6 +91,23 @@ topK h N xs k allowance =
     let cost = need h xs full in
     cond (leb cost allowance) (done full cost) (spent (covered h xs allowance full (length full)) allowance)
 
+-- ---- the same over any need
+
+-- the need of a front part, by its last pair; without pairs it is 0
+abbrev pub needBy : (Pair → ℕ) → List Pair → ℕ
+needBy f [] = 0
+needBy f (p ∷ ps) = f (last p ps)
+
+module _ (need : List Pair → ℕ) (allowance : ℕ) (full : List Pair) where
+  -- the longest front part, of at most m pairs, whose need the allowance covers
+  abbrev pub coveredBy : ℕ → List Pair
+  coveredBy zero = []
+  coveredBy (suc m) = let shorter = coveredBy m in cond (leb (need (take (suc m) full)) allowance) (take (suc m) full) shorter
+
+  -- the whole list if the allowance covers its need, else the longest front part that it covers
+  abbrev pub answerBy : Answer
+  answerBy = cond (leb (need full) allowance) (done full (need full)) (spent (coveredBy (length full)) allowance)
+
 -- ---- results
 
 -- how a search ended: so many pairs listed, with the openings needed or with the allowance

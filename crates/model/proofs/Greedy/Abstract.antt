@@ -2,14 +2,15 @@
 use Prim.Native.Nat.{ℕ, zero, suc, _+_, _*_, _≤_}
 use native.Mathlib.Omega.{arith}
 use mathlib.Core.Path.{_≡_}
-use mathlib.Core.List.{List, [], _∷_, map}
-use mathlib.Core.Bool.{Bool, cond, _&&_, _||_}
-use lib.ListN.{length, take}
+use mathlib.Core.List.{List, map}
+use mathlib.Core.Bool.{Bool, _&&_, _||_}
+use lib.ListN.{take}
 use lib.Dec.{leb, ltb, eqb}
 use Rattle.bits.specs.Sequences.{tally, below}
 use Rattle.model.specs.Lists.{keep}
 use Rattle.model.specs.Queries.{Pair}
-use Rattle.model.specs.TopK.{Node, node, start, innerNodes, ranking, last, Answer, done, spent}
+use Rattle.model.specs.TopK.{Node, node, start, innerNodes, ranking, Answer}
+pub use Rattle.model.specs.TopK.{needBy, coveredBy, answerBy}
 
 -- the count never rises from a node to its halves; a node lives exactly where a half of it does. A node may live with count 0
 pub record Counted (count : Node → ℕ) (lives : Node → Bool) : Type 0 where
@@ -26,21 +27,6 @@ counted-of-sum count lives sum either = record {
   upper-le = λ l q. omega (arith, sum l q);
   lives-halves = either;
 }
-
--- the need of a front part, by its last pair; without pairs it is 0
-abbrev pub needBy : (Pair → ℕ) → List Pair → ℕ
-needBy f [] = 0
-needBy f (p ∷ ps) = f (last p ps)
-
-module _ (need : List Pair → ℕ) (allowance : ℕ) (full : List Pair) where
-  -- the longest front part, of at most m pairs, whose need the allowance covers
-  abbrev pub coveredBy : ℕ → List Pair
-  coveredBy zero = []
-  coveredBy (suc m) = let shorter = coveredBy m in cond (leb (need (take (suc m) full)) allowance) (take (suc m) full) shorter
-
-  -- the whole list if the allowance covers its need, else the longest front part that it covers
-  abbrev pub answerBy : Answer
-  answerBy = cond (leb (need full) allowance) (done full (need full)) (spent (coveredBy (length full)) allowance)
 
 -- a document with the count of its leaf
 abbrev pub leafPair : (Node → ℕ) → ℕ → Pair

@@ -64,7 +64,7 @@ answerBy-same f g allowance ps e =
     covered (suc m) l = rw (e (suc m) l, covered m (omega arith))
 
 module _ (need : List Pair → ℕ) (ps : List Pair) where
-  covered-le : (a m : ℕ) → length (coveredBy need a ps m) ≤ length (take m ps)
+  pub covered-le : (a m : ℕ) → length (coveredBy need a ps m) ≤ length (take m ps)
   covered-le a zero = omega arith
   covered-le a (suc m) = go (leb (need (take (suc m) ps)) a) (covered-le a m)
     where

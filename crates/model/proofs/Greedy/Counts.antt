@@ -45,7 +45,7 @@ pub count-leaf : (xs : List ℕ) (d : ℕ) → countIn xs (node zero d) ≡ occu
 count-leaf xs d =
     tally-same (λ v. eqb (v / 2 ^ 0) d) (eqb d) (λ v. ap (λ (w : ℕ). eqb w d) (div-one v) ∙ eqb-swap v d) xs
 
-occupied-halves : (xs : List ℕ) (l q : ℕ)
+pub occupied-halves : (xs : List ℕ) (l q : ℕ)
     → occupied xs (node (suc l) q) ≡ (occupied xs (node l (2 * q)) || occupied xs (node l (2 * q + 1)))
 occupied-halves xs l q = go (look (occupied xs (node l (2 * q)))) (look (occupied xs (node l (2 * q + 1))))
   where
@@ -119,7 +119,7 @@ module _ (xs : List ℕ) where
       and-not true = refl
       and-not false = refl
 
-  covered-coveredBy : (h allowance : ℕ) (ps : List Pair) (m : ℕ) → covered h xs allowance ps m ≡ coveredBy (need h xs) allowance ps m
+  pub covered-coveredBy : (h allowance : ℕ) (ps : List Pair) (m : ℕ) → covered h xs allowance ps m ≡ coveredBy (need h xs) allowance ps m
   covered-coveredBy h allowance ps zero = refl
   covered-coveredBy h allowance ps (suc m) =
       ap (λ (r : List Pair). cond (leb (need h xs (take (suc m) ps)) allowance) (take (suc m) ps) r) (covered-coveredBy h allowance ps m)
