@@ -2,9 +2,9 @@
 use answers::Answer;
 use answers::Placed;
 use archive_ranges::Range;
+use moves::TopK;
 use reader::Reading;
 use top_k::Probed;
-use top_k::TopK;
 use writer::Written;
 ghost use mathlib.Core.Path.{_≡_};
 ghost use Prim.Native.Nat.{_^_, _<_};
@@ -12,7 +12,8 @@ ghost use Rattle.archive_ranges.specs.Ranges.{boundsIn};
 ghost use Rattle.reader.specs.Reading.{readingOf};
 ghost use Rattle.writer.specs.Writing.{writtenOf};
 ghost use Rattle.answers.specs.Answers.{numberOf, placeOf};
-ghost use Rattle.top_k.specs.Asked.{topKOf, probedOf};
+ghost use Rattle.moves.specs.Results.{topKOf};
+ghost use Rattle.top_k.specs.Asked.{probedOf};
 ghost use Rattle.ffi.specs.Left as border;
 ghost use Rattle.ffi.specs.Left.{given, placed, ended, Narrow, coded, one, two, three};
 

@@ -5,10 +5,10 @@ use mathlib.Core.List.{List}
 use Rattle.model.specs.TopK.{topK, foundOf}
 use Rattle.model.proofs.Greedy.Theorem.{greedy}
 use Rattle.search.specs.declared.Search.{Search}
+use Rattle.search.specs.Searchable.{Searchable, rangeOf}
 use Rattle.search.specs.Sought.{entriesOf, greedyOf}
-use Rattle.greedy.specs.Moves.{Searchable, rangeOf}
-use Rattle.greedy.specs.Results.{foundIn}
-use Rattle.greedy.proofs.Kept.{range-within, documents-fit}
+use Rattle.greedy.specs.Grounds.{foundIn}
+use Rattle.greedy.proofs.Grounds.{range-within, documents-fit}
 
 pub found-answer : (bytes : List ℕ) (s : Search) → Searchable bytes s → (k allowance : ℕ)
     → foundIn bytes s k allowance ≡ greedyOf k allowance (entriesOf bytes s)

@@ -1,11 +1,6 @@
--- Laws of the waiting nodes in the work slice, and of the search that moves on them.
-pub mod Tree
+-- Laws of the greedy search: its ground, on which the laws of `moves` hold, the halves of a node as they wait, and the answer.
+pub mod Grounds
 pub mod Records
-pub mod Kept
-pub mod Halves
-pub mod Made
 pub mod Opens
-pub mod Advances
-pub mod Course
-pub mod Searching
+pub mod Begins
 pub mod Answers

@@ -3,30 +3,27 @@ use Prim.Native.Nat.{ℕ, _+_, _-_, _*_, _/_, _%_, _^_}
 use mathlib.Core.List.{List}
 use Rattle.frontier.specs.declared.Record.{Record}
 use Rattle.wavelet.specs.declared.Span.{Span}
-use Rattle.wavelet.specs.Spans.{halvesOf, spanOf}
-use Rattle.model.specs.TopK.{Node, node}
-use Rattle.model.specs.Search.{Waiting}
+use Rattle.wavelet.specs.Spans.{halvesOf}
 
--- the count; the start and the depth; the node's places; the range's places. Starts differ, so that the second number orders as the start does
+-- the node's places, and the range's places in it, each two as a number
+abbrev pub nodePlaces : Span → ℕ
+nodePlaces s = s .start * 65536 + s .end
+
+abbrev pub rangePlaces : Span → ℕ
+rangePlaces s = s .lo * 65536 + s .hi
+
+-- the count; the start and the depth; the places
 unfoldable pub packed : ℕ → ℕ → Span → Record
 packed start depth s = record {
   first = s .hi - s .lo;
   second = start * 16 + depth;
-  third = s .start * 65536 + s .end;
-  fourth = s .lo * 65536 + s .hi;
+  third = nodePlaces s;
+  fourth = rangePlaces s;
 }
-
--- of entries below 2 ^ h: a node, with the range of the entries a up to but without b
-abbrev pub recordOf : ℕ → List ℕ → ℕ → ℕ → Node → Record
-recordOf h xs a b (node l q) = packed (q * 2 ^ l) (h - l) (spanOf h xs a b (h - l) q)
 
 -- the places back
 abbrev pub spanIn : Record → Span
 spanIn r = record { start = r .third / 65536; lo = r .fourth / 65536; hi = r .fourth % 65536; end = r .third % 65536 }
-
--- the node back, with its count
-abbrev pub waitingIn : ℕ → Record → Waiting
-waitingIn h r = record { block = node (h - r .second % 16) (r .second / 16 / 2 ^ (h - r .second % 16)); count = r .first }
 
 -- the halves of a node in a level of the given bits
 abbrev pub lowOf : List ℕ → Record → Record

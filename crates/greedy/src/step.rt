@@ -1,20 +1,22 @@
 // The move of the greedy search, on the first of the waiting nodes.
-use crate::Move;
-use crate::Moved;
 use crate::node::halves;
 use frontier::Record;
+use moves::Move;
+use moves::Moved;
 use search::Search;
 ghost use mathlib.Core.Path.{_≡_};
 ghost use Prim.Native.Nat.{_%_, _<_};
-ghost use Rattle.greedy.specs.Moves.{Searchable, Kept, Moves, First, frontierIn, nextMove, onceOpened, movedIs};
+ghost use Rattle.search.specs.Searchable.{Searchable};
+ghost use Rattle.moves.specs.Moves.{Kept, Moves, First, frontierIn, nextMove, onceOpened, movedIs};
+ghost use Rattle.greedy.specs.Grounds.{groundOf};
 
 // Opens the first of the waiting nodes, r, which is no leaf: its halves wait, unless none of the range's entries are in them.
 fn open(bytes: &[u8], s: Search, work: &mut [u32], waiting: usize, r: Record) -> usize
     requires { ⌜ Searchable (now bytes) s ⌝ }
-    requires { ⌜ Kept (now bytes) s (now work) waiting ⌝ }
+    requires { ⌜ Kept (groundOf (now bytes) s) (now work) waiting ⌝ }
     requires { ⌜ First (now work) waiting r ⌝ }
     requires { ⌜ r .second % 16 < s .levels .height ⌝ }
-    ensures { λ n. ⌜ Moves (now (bytes .entry)) s (now (work .entry)) (onceOpened (now (bytes .entry)) s (now (work .entry)) waiting) (now (work .exit)) n ⌝ }
+    ensures { λ n. ⌜ Moves (groundOf (now (bytes .entry)) s) (now (work .entry)) (onceOpened (groundOf (now (bytes .entry)) s) (now (work .entry)) waiting) (now (work .exit)) n ⌝ }
 {
     let two = halves(bytes, s.levels, r);
     let low = two.low;
@@ -34,9 +36,9 @@ fn open(bytes: &[u8], s: Search, work: &mut [u32], waiting: usize, r: Record) ->
 // The move, with the allowance that is left. A leaf is named whatever is left.
 pub fn step(bytes: &[u8], s: Search, work: &mut [u32], waiting: usize, left: u32) -> Moved
     requires { ⌜ Searchable (now bytes) s ⌝ }
-    requires { ⌜ (0 < waiting) × Kept (now bytes) s (now work) waiting ⌝ }
-    ensures { λ r. ⌜ movedIs s r (now (work .exit)) ≡ nextMove (now (bytes .entry)) s left (frontierIn s (now (work .entry)) waiting) ⌝ }
-    ensures { λ r. ⌜ Moves (now (bytes .entry)) s (now (work .entry)) (frontierIn s (now (work .exit)) (r .waiting)) (now (work .exit)) (r .waiting) ⌝ }
+    requires { ⌜ (0 < waiting) × Kept (groundOf (now bytes) s) (now work) waiting ⌝ }
+    ensures { λ r. ⌜ movedIs (groundOf (now (bytes .entry)) s) r (now (work .exit)) ≡ nextMove (groundOf (now (bytes .entry)) s) left (frontierIn (groundOf (now (bytes .entry)) s) (now (work .entry)) waiting) ⌝ }
+    ensures { λ r. ⌜ Moves (groundOf (now (bytes .entry)) s) (now (work .entry)) (frontierIn (groundOf (now (bytes .entry)) s) (now (work .exit)) (r .waiting)) (now (work .exit)) (r .waiting) ⌝ }
 {
     let r = frontier::top(work, waiting);
     let start = r.second / 16;

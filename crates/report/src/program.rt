@@ -2,13 +2,13 @@
 use crate::text::put_last;
 use crate::text::put_line;
 use bit_rows::number;
-use top_k::TopK;
+use moves::TopK;
 use top_k::greedy_terms;
 ghost use mathlib.Core.Path.{_≡_};
 ghost use Prim.Native.Nat.{_≤_};
 ghost use lib.ListN.{length};
 ghost use Rattle.model.specs.Queries.{pairsIn};
-ghost use Rattle.top_k.specs.Asked.{topKOf};
+ghost use Rattle.moves.specs.Results.{topKOf};
 ghost use Rattle.report.specs.Report.{linesOf, answerTo, textOf, report, shown, written};
 ghost use Rattle.io.specs.Counts.{Counts};
 ghost use Rattle.report.specs.Types.{Types, textIn, Listed};

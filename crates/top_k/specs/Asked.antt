@@ -8,15 +8,13 @@ use Rattle.model.specs.Outcome.{Outcome, answered, refused, refuse, andThen}
 use Rattle.model.specs.Opening.{opened}
 use Rattle.model.specs.Queries as model
 use Rattle.model.specs.Queries.{inRange}
-use Rattle.model.specs.TopK.{Ended, doneWith, spentWith, Found, SearchResult}
+use Rattle.model.specs.TopK.{Ended, Found, SearchResult}
 use Rattle.archive.specs.declared.Layout.{Layout}
 use Rattle.archive_ranges.specs.declared.Range.{Range}
 use Rattle.archive_ranges.specs.declared.Range.the-variants as range
 use Rattle.search.specs.declared.Search.{Search}
 use Rattle.top_k.specs.declared.Query.{Query}
 use Rattle.top_k.specs.declared.Query.the-variants as query
-use Rattle.top_k.specs.declared.TopK.{TopK}
-use Rattle.top_k.specs.declared.TopK.the-variants as answer
 use Rattle.top_k.specs.declared.Probed.{Probed}
 use Rattle.top_k.specs.declared.Probed.the-variants as probed
 use Rattle.search.specs.Searchable.{Searchable}
@@ -24,21 +22,12 @@ use Rattle.search.specs.Sought.{Asked, entriesOf, greedyOf, probingOf}
 
 -- ---- the answers
 
--- document 01's number and values for each case: 'done' with the openings needed, 'spent' with the allowance, or a refusal
-abbrev pub topKOf : TopK → Outcome Ended
-topKOf (answer.Done listed openings) = answered (doneWith listed openings)
-topKOf (answer.Spent listed allowance) = answered (spentWith listed allowance)
-topKOf (answer.Refused number) = refused number
-
 -- document 01's number and values for each case: how many pairs, or a refusal
 abbrev pub probedOf : Probed → Outcome ℕ
 probedOf (probed.Pairs listed) = answered listed
 probedOf (probed.Refused number) = refused number
 
 -- the answer, with the final content of the lent slices
-abbrev pub topKIs : TopK → List ℕ → List ℕ → SearchResult Ended
-topKIs r answers work = record { outcome = topKOf r; answers = answers; work = work }
-
 abbrev pub probedIs : Probed → List ℕ → List ℕ → SearchResult ℕ
 probedIs r answers work = record { outcome = probedOf r; answers = answers; work = work }
 

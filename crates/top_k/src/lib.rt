@@ -2,6 +2,7 @@
 mod operations;
 mod question;
 
+pub use moves::TopK;
 pub use operations::greedy_entries;
 pub use operations::greedy_entries_opened;
 pub use operations::greedy_terms;
@@ -15,13 +16,6 @@ use search::Search;
 // A question before the search: what is searched, or the number of a refusal.
 pub enum Query {
     Over(Search),
-    Refused(u32),
-}
-
-// The greedy answer: so many pairs listed, and the openings needed or the allowance; or the number of a refusal.
-pub enum TopK {
-    Done { listed: u32, openings: u32 },
-    Spent { listed: u32, allowance: u32 },
     Refused(u32),
 }
 

@@ -2,33 +2,23 @@
 // A name that ends in `_opened` is the question of an archive that was opened before.
 use crate::Probed;
 use crate::Query;
-use crate::TopK;
 use crate::question::over;
 use archive::Layout;
 use archive::Opening;
 use archive::open;
 use archive_ranges::entry_range;
 use archive_ranges::term_range;
-use greedy::Ended;
 use greedy::greedy;
+use moves::TopK;
+use moves::answer_of;
 use probing::probing;
 ghost use mathlib.Core.Path.{_≡_};
 ghost use lib.ListN.{length};
-ghost use Rattle.model.specs.Outcome.{answered};
 ghost use Rattle.model.specs.Queries.{ofEntries, ofTerms};
 ghost use Rattle.model.specs.TopK.{foundInto, greedyResult, probingResult};
 ghost use Rattle.archive.specs.Layout.{Opened};
-ghost use Rattle.greedy.specs.Results.{endedIs};
-ghost use Rattle.top_k.specs.Asked.{topKOf, topKIs, probedIs, greedyFound, probingFound, Ready, askedIn};
-
-fn answer_of(e: Ended) -> TopK
-    ensures { λ r. ⌜ topKOf r ≡ answered (endedIs e) ⌝ }
-{
-    match e {
-        Ended::Done { listed, openings } => TopK::Done { listed, openings },
-        Ended::Spent { listed, allowance } => TopK::Spent { listed, allowance },
-    }
-}
+ghost use Rattle.moves.specs.Results.{topKIs};
+ghost use Rattle.top_k.specs.Asked.{probedIs, greedyFound, probingFound, Ready, askedIn};
 
 // The greedy search of a question.
 fn search_greedily(

@@ -2,28 +2,27 @@
 use Prim.Native.Nat.{ℕ, _*_, _≤_, _<_}
 use mathlib.Core.Path.{_≡_, refl, sym, ap, ap₂, _∙_}
 use mathlib.Core.List.{List}
-use mathlib.Core.Bool.{Bool, true, false, cond}
 use lib.ListN.{length, take, drop, replicate}
 use lib.Seq.{take-append-seam}
 use lib.Dec.{leb}
-use borrow.Author.Tests.{le-leb, lt-leb}
 use Rattle.bits.specs.Sequences.{tally}
 use Rattle.model.specs.Lists.{overwrite, Within}
 use Rattle.model.specs.Outcome.{Outcome, answered, refused, andThen}
 use Rattle.model.specs.Rows.{height}
 use Rattle.model.specs.Queries.{Pair, Range, flat}
-use Rattle.model.specs.TopK.{fullList, need, covered, Answer, done, spent, topK, Ended, doneWith, spentWith, endedOf, pairsOf, SearchResult, foundInto, greedyResult, probingResult}
+use Rattle.model.specs.TopK.{fullList, need, coveredBy, answerBy, Answer, done, spent, topK, Ended, doneWith, spentWith, endedOf, pairsOf, SearchResult, foundOf, foundInto, greedyResult, probingResult}
 use Rattle.model.specs.Search.{isOpening, searchMoves}
 use Rattle.model.specs.Demand3.{isDone, figure}
 use Rattle.model.proofs.Height.{le-pow-height}
-use Rattle.model.proofs.Format.WriteBack as opened
 use Rattle.model.proofs.Pairs.{length-flat}
+use Rattle.model.proofs.Covering as any-need
+use Rattle.model.proofs.Covering.{Longest, longestFront}
 use Rattle.model.proofs.Greedy.Answers.{figureOf}
+use Rattle.model.proofs.Greedy.Counts.{topK-answerBy}
 use Rattle.model.proofs.Greedy.Theorem.{openings, topK-mono}
 use Rattle.search.specs.Sought.{Asked, greedyOf, probingOf}
 use Rattle.top_k.specs.Asked.{asked}
 use Rattle.top_k.proofs.Asking.{search-asked}
-use Rattle.top_k.proofs.Demand3.FullList.{Longest, longest-covered}
 
 -- ---- an accepted question
 
@@ -31,15 +30,15 @@ module _ (k : ℕ) (x : Asked) where
   abbrev pub full : List Pair
   full = fullList (x .documents) k (x .entries)
 
+  abbrev pub needed : List Pair → ℕ
+  needed = need (height (x .documents)) (x .entries)
+
   abbrev pub cost : ℕ
-  cost = need (height (x .documents)) (x .entries) full
+  cost = needed full
 
   -- the longest front part of the full list whose own need the allowance covers
-  abbrev pub front : ℕ → List Pair
-  front allowance = covered (height (x .documents)) (x .entries) allowance full (length full)
-
-  pub front-longest : (allowance : ℕ) → Longest (height (x .documents)) (x .entries) allowance full (length full) (front allowance)
-  front-longest allowance = longest-covered (height (x .documents)) (x .entries) allowance full (length full)
+  abbrev pub front : (allowance : ℕ) → Longest needed allowance full (length full) (coveredBy needed allowance full (length full))
+  front allowance = longestFront needed refl allowance full
 
 -- what the public operations promise is what is found: the statements below are about that
 module _ (bytes : List ℕ) (range : Range) (k : ℕ) (out work : List ℕ) (x : Asked) (accepted : asked bytes range k (length out) (length work) ≡ answered x) where
@@ -61,10 +60,6 @@ listed (answered (doneWith n openings)) = n
 listed (answered (spentWith n allowance)) = n
 listed (refused number) = 0
 
-figure-ended : (a : Answer) → figure (answered (endedOf a)) ≡ figureOf a
-figure-ended (done ps openings) = refl
-figure-ended (spent ps allowance) = refl
-
 listed-ended : (a : Answer) → listed (answered (endedOf a)) ≡ length (pairsOf a)
 listed-ended (done ps openings) = refl
 listed-ended (spent ps allowance) = refl
@@ -72,49 +67,38 @@ listed-ended (spent ps allowance) = refl
 -- ---- the greedy search
 
 module _ (k allowance : ℕ) (x : Asked) (out work : List ℕ) (r : SearchResult Ended) (promise : r ≡ foundInto out work (answered (greedyOf k allowance x))) where
-  abbrev answer : Answer
-  answer = topK (height (x .documents)) (x .documents) (x .entries) k allowance
+  abbrev N : ℕ
+  N = x .documents
 
-  outcome : r .outcome ≡ answered (endedOf answer)
-  outcome = ap (λ (y : SearchResult Ended). y .outcome) promise
-
-  slice : r .answers ≡ overwrite (flat (pairsOf answer)) out
-  slice = ap (λ (y : SearchResult Ended). y .answers) promise
+  by-need : r ≡ foundInto out work (answered (foundOf N (answerBy (needed k x) allowance (full k x))))
+  by-need = promise ∙ ap (λ (a : Answer). foundInto out work (answered (foundOf N a))) (topK-answerBy (x .entries) (height N) N k allowance)
 
   -- "The shortlist answers 'done' with the full list and its need exactly when the allowance covers that need"
   pub done-exactly : isDone (r .outcome) ≡ leb (cost k x) allowance
-  done-exactly = ap isDone outcome ∙ go (leb (cost k x) allowance)
-    where
-      go : (b : Bool) → isDone (answered (endedOf (cond b (done (full k x) (cost k x)) (spent (front k x allowance) allowance)))) ≡ b
-      go true = refl
-      go false = refl
+  done-exactly = any-need.done-exactly (needed k x) refl allowance (full k x) N out work r by-need
 
   pub greedy-done : cost k x ≤ allowance
       → (r .outcome ≡ answered (doneWith (length (full k x)) (cost k x))) × (r .answers ≡ overwrite (flat (full k x)) out)
-  greedy-done l =
-      let e : answer ≡ done (full k x) (cost k x) = rw (le-leb (cost k x) allowance l) in
-      (outcome ∙ ap (λ (a : Answer). answered (endedOf a)) e, slice ∙ ap (λ (a : Answer). overwrite (flat (pairsOf a)) out) e)
+  greedy-done = any-need.left-done (needed k x) refl allowance (full k x) N out work r by-need
 
   -- "and otherwise 'spent' with the allowance and the longest front part of the full list whose own need it covers"
   pub greedy-spent : allowance < cost k x
-      → (r .outcome ≡ answered (spentWith (length (front k x allowance)) allowance)) × (r .answers ≡ overwrite (flat (front k x allowance)) out)
-  greedy-spent l =
-      let e : answer ≡ spent (front k x allowance) allowance = rw (lt-leb (cost k x) allowance l) in
-      (outcome ∙ ap (λ (a : Answer). answered (endedOf a)) e, slice ∙ ap (λ (a : Answer). overwrite (flat (pairsOf a)) out) e)
+      → (r .outcome ≡ answered (spentWith (front k x allowance .size) allowance)) × (r .answers ≡ overwrite (flat (take (front k x allowance .size) (full k x))) out)
+  greedy-spent = any-need.left-spent (needed k x) refl allowance (full k x) N out work r by-need
 
   -- "Either number is how many moves opened a block"
-  pub greedy-openings : Within (x .documents) (x .entries)
-      → figure (r .outcome) ≡ tally isOpening (searchMoves (height (x .documents)) (x .entries) k allowance)
+  pub greedy-openings : Within N (x .entries) → figure (r .outcome) ≡ tally isOpening (searchMoves (height N) (x .entries) k allowance)
   greedy-openings within =
-      ap figure outcome ∙ figure-ended answer
-      ∙ openings (height (x .documents)) (x .documents) (le-pow-height (x .documents)) (x .entries) within k allowance
+      any-need.left-figure (needed k x) refl allowance (full k x) N out work r by-need
+      ∙ ap figureOf (sym (topK-answerBy (x .entries) (height N) N k allowance))
+      ∙ openings (height N) N (le-pow-height N) (x .entries) within k allowance
 
   -- the first 4 * N numbers of the work slice are 0, and the rest is untouched
-  pub greedy-work : r .work ≡ overwrite (replicate (4 * x .documents) 0) work
-  greedy-work = ap (λ (y : SearchResult Ended). y .work) promise
+  pub greedy-work : r .work ≡ overwrite (replicate (4 * N) 0) work
+  greedy-work = any-need.left-work (needed k x) refl allowance (full k x) N out work r by-need
 
-  pub greedy-listed : listed (r .outcome) ≡ length (pairsOf answer)
-  greedy-listed = ap listed outcome ∙ listed-ended answer
+  pub greedy-listed : listed (r .outcome) ≡ length (pairsOf (topK (height N) N (x .entries) k allowance))
+  greedy-listed = ap (λ (y : SearchResult Ended). listed (y .outcome)) promise ∙ listed-ended (topK (height N) N (x .entries) k allowance)
 
 -- a larger allowance never shortens the list, whatever is lent
 pub never-shorter : (k a b : ℕ) (x : Asked) (out work out' work' : List ℕ) (r s : SearchResult Ended)

@@ -1,93 +1,28 @@
 -- Demand 3 as one theorem: the promises of the operations yield the record of its sentences.
 use Prim.Native.Nat.{ℕ, suc, _*_, _≤_, _<_, min}
 use native.Mathlib.Omega.{arith}
-use mathlib.Core.Path.{_≡_, refl, ap, ap₂, _∙_}
-use mathlib.Core.Logic.{_⊎_, inl, inr}
-use mathlib.Core.List.{List, [], _∷_, map}
-use mathlib.Core.Bool.{Bool, true, false, _||_}
+use mathlib.Core.Path.{_≡_, ap, ap₂, _∙_}
+use mathlib.Core.List.{List}
+use mathlib.Core.Bool.{Bool, _||_}
 use lib.ListN.{length}
-use lib.Seq.{length-take-le}
-use lib.Dec.{eqb}
 use borrow.Author.Tests.{le-ltb, lt-leb}
-use Rattle.bits.specs.Sequences.{bit, tally, below, occurrences}
-use Rattle.bits.proofs.Tests.{look, and-both, le-or-lt, bit-eq, bit-ne, eqb-swap}
-use Rattle.bits.proofs.Tally.{tally-map, tally-le}
-use Rattle.model.specs.Lists.{part, overwrite, Within, Every, Sorted}
+use Rattle.model.specs.Lists.{part, Within}
 use Rattle.model.specs.Outcome.{Outcome, answered, refuse, andThen}
 use Rattle.model.specs.Rows.{height}
 use Rattle.model.specs.Format.{Sizes}
 use Rattle.model.specs.Opening.{contents, opening}
-use Rattle.model.specs.Queries.{Pair, pairOf, present, flat, Range, ofEntries, ofTerms, Bounds, boundsOf, inRange, termStart}
-use Rattle.model.specs.TopK.{ahead, fullList, need, Ended, spentWith, SearchResult, greedyResult, probingResult, foundInto, aheadPair}
-use Rattle.model.specs.Demand3.{Demand3}
-use Rattle.model.proofs.Lists.{within-part, length-keep}
-use Rattle.model.proofs.Sorting.{every-cons, every-head, every-tail}
-use Rattle.model.proofs.Ranking.{pair-after, pair-antisymm}
+use Rattle.model.specs.Queries.{Pair, Range, ofEntries, ofTerms, Bounds, boundsOf, inRange, termStart}
+use Rattle.model.specs.TopK.{fullList, need, Ended, SearchResult, greedyResult, probingResult, foundInto}
+use Rattle.model.specs.Demand3.{Room, Demand3}
+use Rattle.model.proofs.Lists.{within-part}
 use Rattle.model.proofs.Format.WriteBack as opened
 use Rattle.search.specs.Sought.{Asked, greedyOf, probingOf}
-use Rattle.top_k.specs.declared.TopK.{TopK}
+use Rattle.moves.specs.declared.TopK.{TopK}
+use Rattle.moves.specs.Results.{topKOf}
 use Rattle.top_k.specs.declared.Probed.{Probed}
-use Rattle.top_k.specs.Asked.{topKOf, probedOf, withRoom, asked}
+use Rattle.top_k.specs.Asked.{probedOf, withRoom, asked}
 use Rattle.top_k.proofs.Demand3.FullList as shown
-use Rattle.top_k.proofs.Demand3.FullList.{samePair}
-use Rattle.top_k.proofs.Demand3.Promises.{front, front-longest, greedy-accepted, probing-accepted, done-exactly, greedy-done, greedy-spent, greedy-openings, probing-full}
-
--- ---- strict order, where documents differ
-
-ahead-strict : (p q : Pair) → aheadPair p q ≡ true → eqb (p .document) (q .document) ≡ false → ahead p q ≡ true
-ahead-strict p q a d = go (look (ahead p q))
-  where
-    go : (ahead p q ≡ true) ⊎ (ahead p q ≡ false) → ahead p q ≡ true
-    go (inl e) = e
-    go (inr e) =
-        let same : p .document ≡ q .document = ap (λ (r : Pair). r .document) (pair-antisymm p q a (pair-after p q e)) in
-        absurd (omega (arith, bit-eq (p .document) (q .document) same, ap bit d))
-
-every-strict : (t u w : Pair → Bool) → ((p : Pair) → t p ≡ true → u p ≡ false → w p ≡ true) → (ps : List Pair) → Every t ps → tally u ps ≡ 0 → Every w ps
-every-strict t u w f [] a b = refl
-every-strict t u w f (p ∷ ps) a b =
-    every-cons w p ps (go (look (u p))) (every-strict t u w f ps (every-tail t p ps a) (omega arith))
-  where
-    go : (u p ≡ true) ⊎ (u p ≡ false) → w p ≡ true
-    go (inl e) = absurd (omega (arith, ap bit e))
-    go (inr e) = f p (every-head t p ps a) e
-
-sorted-strict : (ps : List Pair) → Sorted aheadPair ps → ((d : ℕ) → tally (λ p. eqb d (p .document)) ps ≤ 1) → Sorted ahead ps
-sorted-strict [] s u = tt
-sorted-strict (p ∷ ps) s u = (
-  every-strict (aheadPair p) (λ q. eqb (p .document) (q .document)) (ahead p) (λ q. ahead-strict p q) ps (s .0)
-      (omega (arith, u (p .document), bit-eq (p .document) (p .document) refl)),
-  sorted-strict ps (s .1) (λ d. omega (arith, u d)),
-)
-
--- a document from N up does not occur
-absent : (N d : ℕ) → N ≤ d → (xs : List ℕ) → Within N xs → occurrences d xs ≡ 0
-absent N d l [] w = refl
-absent N d l (x ∷ xs) w = let h = w .0 in omega (arith, bit-ne d x (omega arith), absent N d l xs (w .1))
-
--- ---- the full list
-
-module _ (N k : ℕ) (xs : List ℕ) (within : Within N xs) where
-  full-others : (d : ℕ) → 0 < occurrences d xs
-      → (0 < tally (λ p. eqb d (p .document)) (fullList N k xs)) ⊎ Every (λ p. ahead p (pairOf xs d)) (fullList N k xs)
-  full-others d some = go (le-or-lt N d) (le-or-lt 1 (tally here (fullList N k xs)))
-    where
-      here : Pair → Bool
-      here p = eqb d (p .document)
-
-      after : tally here (fullList N k xs) < 1 → (0 < tally (samePair (pairOf xs d)) (fullList N k xs)) ⊎ Every (λ p. aheadPair p (pairOf xs d)) (fullList N k xs)
-          → Every (λ p. ahead p (pairOf xs d)) (fullList N k xs)
-      after none (inl l) =
-          absurd (omega (arith, tally-le (samePair (pairOf xs d)) here (λ p e. and-both (eqb d (p .document)) (eqb (occurrences d xs) (p .count)) e .0) (fullList N k xs)))
-      after none (inr a) =
-          every-strict (λ p. aheadPair p (pairOf xs d)) here (λ p. ahead p (pairOf xs d))
-          (λ p t u. ahead-strict p (pairOf xs d) t (eqb-swap (p .document) d ∙ u)) (fullList N k xs) a (omega arith)
-
-      go : (N ≤ d) ⊎ (d < N) → (1 ≤ tally here (fullList N k xs)) ⊎ (tally here (fullList N k xs) < 1)
-          → (0 < tally here (fullList N k xs)) ⊎ Every (λ p. ahead p (pairOf xs d)) (fullList N k xs)
-      go (inl l) t = absurd (omega (arith, absent N d l xs within))
-      go (inr l) (inl t) = inl t
-      go (inr l) (inr t) = inr (after t (shown.others-after N k xs d l some))
+use Rattle.top_k.proofs.Demand3.Promises.{front, greedy-accepted, probing-accepted, done-exactly, greedy-done, greedy-spent, greedy-openings, probing-full}
 
 -- ---- what is found
 
@@ -103,16 +38,15 @@ module _ (k allowance : ℕ) (x : Asked) (within : Within (x .documents) (x .ent
   found : Demand3 N k allowance xs out g out′ p
   found =
       let full : List Pair = fullList N k xs in
-      let L = front-longest k x allowance in
+      let L = front k x allowance in
       record {
         full = full;
-        exactly-k =
-            shown.exactly-k N k xs ∙ ap (min k) (length-keep present (map (pairOf xs) (below N)) ∙ tally-map present (pairOf xs) (below N));
+        exactly-k = shown.exactly-k N k xs;
         different = shown.different N k xs;
         of-the-range = shown.of-the-range N k xs;
         exact-count = shown.exact-count N k xs;
-        in-order = sorted-strict full (shown.in-order N k xs) (shown.different N k xs);
-        others-after = full-others N k xs within;
+        in-order = shown.in-order N k xs;
+        others-after = shown.others-after N k xs within;
         needOf = need (height N) xs;
         needs = shown.needs (height N) xs;
         needs-none = shown.needs-none (height N) xs;
@@ -122,20 +56,12 @@ module _ (k allowance : ℕ) (x : Asked) (within : Within (x .documents) (x .ent
         front-part = L .within;
         front-covered = L .covers;
         front-longest = L .longest;
-        spent = λ l.
-            let (o, a) = greedy-spent k allowance x out work g greedily l in
-            let size : length (front k x allowance) ≡ L .size = ap length (L .is) ∙ length-take-le (L .size) full (L .within) in
-            (o ∙ ap (λ (n : ℕ). answered (spentWith n allowance)) size, a ∙ ap (λ (ps : List Pair). overwrite (flat ps) out) (L .is));
+        spent = greedy-spent k allowance x out work g greedily;
         openings = greedy-openings k allowance x out work g greedily within;
         probed = probing-full k x out′ work′ p by-probing;
       }
 
 -- ---- the theorem
-
--- lent slices as long as document 01 asks
-pub record Room (N k : ℕ) (out work : List ℕ) : Type 0 where
-  pub answers : 2 * min k N ≤ length out
-  pub working : 4 * N ≤ length work
 
 -- "For every accepted archive, range, k and allowance, and whatever stands in lent slices as long as document 01 asks": `bytes` is the archive,
 -- `r` the ends of the range, which is one of entries or of terms

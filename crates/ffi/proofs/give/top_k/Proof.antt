@@ -1,8 +1,8 @@
 use borrow.Author.Needs.{needs}
 use mathlib.Core.Path.{sym, ap}
 use mathlib.Core.List.{[], _∷_}
-use Rattle.top_k.specs.declared.TopK.{TopK}
-use Rattle.top_k.specs.Asked.{topKOf}
+use Rattle.moves.specs.declared.TopK.{TopK}
+use Rattle.moves.specs.Results.{topKOf}
 use Rattle.ffi.specs.Left.{given, ended}
 use Rattle.ffi.proofs.give.top_k.Statement.{statement}
 use Rattle.ffi.proofs.give.top_k.Tie as tie

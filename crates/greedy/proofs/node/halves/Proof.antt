@@ -7,7 +7,7 @@ use Rattle.wavelet.specs.declared.Halves.{Halves}
 use Rattle.wavelet.specs.Levels.{levelOf}
 use Rattle.wavelet.specs.Spans.{halvesOf}
 use Rattle.greedy.specs.Records.{packed, spanIn}
-use Rattle.greedy.proofs.Tree.{shl-height}
+use Rattle.moves.proofs.Tree.{shl-height}
 use Rattle.greedy.proofs.node.halves.Statement.{statement}
 use Rattle.greedy.proofs.node.halves.Tie as tie
 

@@ -1,7 +1,8 @@
 -- `open`: the halves are those of the first waiting node; which of them wait decides how they go into the heap.
 use borrow.Author.Needs.{needs}
 use native.Mathlib.Omega.{arith}
-use Rattle.greedy.proofs.Kept.{first-some}
+use Rattle.moves.proofs.Kept.{first-some}
+use Rattle.greedy.specs.Grounds.{groundOf}
 use Rattle.greedy.proofs.Opens.{second-fits, span-fits, opens-high, opens-low, opens-room, opens-both}
 use Rattle.greedy.proofs.step.open.Statement.{statement}
 use Rattle.greedy.proofs.step.open.Tie as tie
@@ -22,7 +23,7 @@ replace-top-requires : tie.Need-replace-top-requires
 replace-top-requires c κs =
     let s = c .before .before .before .before .before .before .before .before in
     let a = s .args in
-    (first-some (a .bytes .now) (a .s) (a .work .now) (a .waiting) (a .r) (s .pre .1 .0) (s .pre .1 .1 .0), s .pre .1 .0 .heap)
+    (first-some (groundOf (a .bytes .now) (a .s)) (a .work .now) (a .waiting) (a .r) (s .pre .1 .0) (s .pre .1 .1 .0), s .pre .1 .0 .heap)
 
 same-length : tie.Need-same-length
 same-length c = search needs
@@ -39,7 +40,7 @@ replace-top-requires-2 : tie.Need-replace-top-requires-2
 replace-top-requires-2 c κs =
     let s = c .before .before .before .before .before .before .before .before .before .before in
     let a = s .args in
-    (first-some (a .bytes .now) (a .s) (a .work .now) (a .waiting) (a .r) (s .pre .1 .0) (s .pre .1 .1 .0), s .pre .1 .0 .heap)
+    (first-some (groundOf (a .bytes .now) (a .s)) (a .work .now) (a .waiting) (a .r) (s .pre .1 .0) (s .pre .1 .1 .0), s .pre .1 .0 .heap)
 
 same-length-2 : tie.Need-same-length-2
 same-length-2 c = search needs
@@ -57,7 +58,7 @@ open-top-requires c κs =
     let two = c .before .before .before .before .before .before .before .halves in
     let s = c .before .before .before .before .before .before .before .before .before .before in
     let a = s .args in (
-      first-some (a .bytes .now) (a .s) (a .work .now) (a .waiting) (a .r) (s .pre .1 .0) (s .pre .1 .1 .0),
+      first-some (groundOf (a .bytes .now) (a .s)) (a .work .now) (a .waiting) (a .r) (s .pre .1 .0) (s .pre .1 .1 .0),
       opens-room (a .bytes .now) (a .s) (s .pre .0) (a .work .now) (a .waiting) (a .r) (s .pre .1 .0) (s .pre .1 .1 .0) (s .pre .1 .1 .1)
           (two .result .low) (two .result .high) (two .ensures .0) (two .ensures .1) (omega arith) (omega arith),
       s .pre .1 .0 .heap,

@@ -4,8 +4,10 @@ use Prim.Native.Nat.{suc, _-_, _/_, _%_}
 use native.Mathlib.Omega.{arith}
 use mathlib.Core.Path.{_≡_, refl, ap}
 use Rattle.model.specs.TopK.{node}
-use Rattle.greedy.proofs.Kept.{front-at, first-depth, indexOf, othersOf}
-use Rattle.greedy.proofs.Made.{names-move, names-kept, spent-move, opens-move, same-kept}
+use Rattle.moves.proofs.Kept.{front-at, first-depth, indexOf, othersOf}
+use Rattle.moves.proofs.Made.{names-move, names-kept, spent-move, opens-move, same-kept}
+use Rattle.greedy.specs.Grounds.{groundOf}
+use Rattle.greedy.proofs.Grounds.{sound}
 use Rattle.greedy.proofs.step.step.Statement.{statement}
 use Rattle.greedy.proofs.step.step.Tie as tie
 
@@ -28,13 +30,15 @@ returns : tie.Need-returns
 returns c =
     let s = c .before .before .before .before .before .before .before .before .before .before .before .before .before in
     let a = s .args in
+    let G = groundOf (a .bytes .now) (a .s) in
+    let ok = sound (a .bytes .now) (a .s) (s .pre .0) in
     let r = c .before .before .before .before .before .before .before .before .before .top .result in
-    let F = front-at (a .bytes .now) (a .s) (a .work .now) (a .waiting) r (s .pre .1 .1) (c .before .before .before .before .before .before .before .before .before .top .ensures) 0 (omega arith) in
-    let q = indexOf (a .s) r in
-    let ms = othersOf (a .s) (a .work .now) (a .waiting) in
+    let F = front-at G (a .work .now) (a .waiting) r (s .pre .1 .1) (c .before .before .before .before .before .before .before .before .before .top .ensures) 0 (omega arith) in
+    let q = indexOf G r in
+    let ms = othersOf G (a .work .now) (a .waiting) in
     let P = c .before .before .pop in (
-      names-move (a .bytes .now) (a .s) (s .pre .0) (a .work .now) (a .waiting) r (s .pre .1 .1) q ms F (P .last .0) (P .result) (P .ensures) (a .left),
-      names-kept (a .bytes .now) (a .s) (s .pre .0) (a .work .now) (a .waiting) r (s .pre .1 .1) q ms F (P .last .0) (P .result) (P .ensures) (s .pre .1 .0),
+      names-move G ok (a .work .now) (a .waiting) r (s .pre .1 .1) q ms F (P .last .0) (P .result) (P .ensures) (a .left),
+      names-kept G ok (a .work .now) (a .waiting) r (s .pre .1 .1) q ms F (P .last .0) (P .result) (P .ensures) (s .pre .1 .0),
     )
 
 same-length-2 : tie.Need-same-length-2
@@ -44,22 +48,26 @@ returns-2 : tie.Need-returns-2
 returns-2 c =
     let s = c .before .before .before .before .before .before .before .before .before .before in
     let a = s .args in
+    let G = groundOf (a .bytes .now) (a .s) in
+    let ok = sound (a .bytes .now) (a .s) (s .pre .0) in
     let r = c .before .before .before .before .before .before .top .result in
     let h = a .s .levels .height in
-    let d = first-depth (a .bytes .now) (a .s) (a .work .now) (a .waiting) r (s .pre .1 .1) (c .before .before .before .before .before .before .top .ensures) (s .pre .0) in
+    let d = first-depth G (a .work .now) (a .waiting) r (s .pre .1 .1) (c .before .before .before .before .before .before .top .ensures) ok in
     let l = h - 1 - r .second % 16 in
-    let F = front-at (a .bytes .now) (a .s) (a .work .now) (a .waiting) r (s .pre .1 .1) (c .before .before .before .before .before .before .top .ensures) (suc l) (omega arith) in
+    let F = front-at G (a .work .now) (a .waiting) r (s .pre .1 .1) (c .before .before .before .before .before .before .top .ensures) (suc l) (omega arith) in
     let z : a .left ≡ 0 = omega arith in (
-      rw z (spent-move (a .bytes .now) (a .s) (s .pre .0) (a .work .now) (a .waiting) r (s .pre .1 .1) l (indexOf (a .s) r)
-          (othersOf (a .s) (a .work .now) (a .waiting)) F),
-      same-kept (a .bytes .now) (a .s) (a .work .now) (a .waiting) (s .pre .1 .1),
+      rw z (spent-move G ok (a .work .now) (a .waiting) r (s .pre .1 .1) l (indexOf G r)
+          (othersOf G (a .work .now) (a .waiting)) F),
+      same-kept G (a .work .now) (a .waiting) (s .pre .1 .1),
     )
 
 sub-height : tie.Need-sub-height
 sub-height c =
     let s = c .before .before .before .before .before .before .before .before .before .before .before in
     let a = s .args in
-    first-depth (a .bytes .now) (a .s) (a .work .now) (a .waiting) (c .before .before .before .before .before .before .before .top .result) (s .pre .1 .1) (c .before .before .before .before .before .before .before .top .ensures) (s .pre .0)
+    let G = groundOf (a .bytes .now) (a .s) in
+    let ok = sound (a .bytes .now) (a .s) (s .pre .0) in
+    first-depth G (a .work .now) (a .waiting) (c .before .before .before .before .before .before .before .top .result) (s .pre .1 .1) (c .before .before .before .before .before .before .before .top .ensures) ok
 
 cast-height : tie.Need-cast-height
 cast-height c = search needs
@@ -68,7 +76,9 @@ open-requires : tie.Need-open-requires
 open-requires c κs =
     let s = c .before .before .before .before .before .before .before .before .before .before .before .before in
     let a = s .args in
-    let d = first-depth (a .bytes .now) (a .s) (a .work .now) (a .waiting) (c .before .before .before .before .before .before .before .before .top .result) (s .pre .1 .1) (c .before .before .before .before .before .before .before .before .top .ensures) (s .pre .0) in
+    let G = groundOf (a .bytes .now) (a .s) in
+    let ok = sound (a .bytes .now) (a .s) (s .pre .0) in
+    let d = first-depth G (a .work .now) (a .waiting) (c .before .before .before .before .before .before .before .before .top .result) (s .pre .1 .1) (c .before .before .before .before .before .before .before .before .top .ensures) ok in
     (s .pre .0, (s .pre .1 .1, (c .before .before .before .before .before .before .before .before .top .ensures, omega arith)))
 
 same-length-3 : tie.Need-same-length-3
@@ -78,17 +88,19 @@ returns-3 : tie.Need-returns-3
 returns-3 c =
     let s = c .before .before .before .before .before .before .before .before .before .before .before .before .before .before .before in
     let a = s .args in
+    let G = groundOf (a .bytes .now) (a .s) in
+    let ok = sound (a .bytes .now) (a .s) (s .pre .0) in
     let r = c .before .before .before .before .before .before .before .before .before .before .before .top .result in
     let h = a .s .levels .height in
-    let d = first-depth (a .bytes .now) (a .s) (a .work .now) (a .waiting) r (s .pre .1 .1) (c .before .before .before .before .before .before .before .before .before .before .before .top .ensures) (s .pre .0) in
+    let d = first-depth G (a .work .now) (a .waiting) r (s .pre .1 .1) (c .before .before .before .before .before .before .before .before .before .before .before .top .ensures) ok in
     let l = h - 1 - r .second % 16 in
     let e : h - r .second % 16 ≡ suc l = omega arith in
-    let F = front-at (a .bytes .now) (a .s) (a .work .now) (a .waiting) r (s .pre .1 .1) (c .before .before .before .before .before .before .before .before .before .before .before .top .ensures) (suc l) e in
+    let F = front-at G (a .work .now) (a .waiting) r (s .pre .1 .1) (c .before .before .before .before .before .before .before .before .before .before .before .top .ensures) (suc l) e in
     let o = c .before .before .«open» in
     let M = o .ensures in (
-      opens-move (a .bytes .now) (a .s) (s .pre .0) (a .work .now) (a .waiting) r (s .pre .1 .1) l (indexOf (a .s) r)
-          (othersOf (a .s) (a .work .now) (a .waiting)) F (a .left) (λ z. omega arith) (o .last .1 .1 .0) (o .result) (r .second / 16)
-          (h - r .second % 16) (ap (λ k. node k (indexOf (a .s) r)) e) (M .waits),
+      opens-move G ok (a .work .now) (a .waiting) r (s .pre .1 .1) l (indexOf G r)
+          (othersOf G (a .work .now) (a .waiting)) F (a .left) (λ z. omega arith) (o .last .1 .1 .0) (o .result) (r .second / 16)
+          (h - r .second % 16) (ap (λ k. node k (indexOf G r)) e) (M .waits),
       record { kept = M .kept; waits = refl; rest = M .rest; size = M .size },
     )
 

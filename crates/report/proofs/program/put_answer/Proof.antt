@@ -1,7 +1,7 @@
 -- `put_answer`: by the cases of the answer.
 use mathlib.Core.Path.{sym, subst}
-use Rattle.top_k.specs.declared.TopK.{TopK}
-use Rattle.top_k.specs.Asked.{topKOf}
+use Rattle.moves.specs.declared.TopK.{TopK}
+use Rattle.moves.specs.Results.{topKOf}
 use Rattle.report.specs.Types.{Types, textIn, Listed}
 use Rattle.report.proofs.Typing.{types-append}
 use borrow.Author.Needs.{needs}

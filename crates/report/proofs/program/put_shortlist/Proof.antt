@@ -5,7 +5,7 @@ use Prim.Native.Nat.{ℕ, _-_}
 use mathlib.Core.List.{List}
 use lib.ListN.{length, take, drop, length-drop}
 use lib.Seq.{take-length}
-use Rattle.top_k.specs.Asked.{topKOf}
+use Rattle.moves.specs.Results.{topKOf}
 use Rattle.report.specs.Report.{shortlistOf, textOf}
 use Rattle.report.specs.Types.{Types}
 use Rattle.report.proofs.Reported.{reported, reported-few}

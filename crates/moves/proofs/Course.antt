@@ -11,11 +11,12 @@ use Rattle.bits.specs.Sequences.{tally}
 use Rattle.bits.proofs.Tally.{tally-append}
 use Rattle.model.specs.Lists.{any, overwrite}
 use Rattle.model.specs.Queries.{Pair, flat}
-use Rattle.model.specs.TopK.{Node, node, countIn, doneWith, spentWith, endedOf}
+use Rattle.model.specs.TopK.{Node, node, doneWith, spentWith, endedOf}
 use Rattle.model.specs.TopK as model
-use Rattle.model.specs.Search.{Waiting, Move, Moved, names, opens, findsSpent, isOpening, isSpent, namedIn, answerOf, waitHalves, moveOf, movesFrom, begin, occupied, searchMoves}
-use Rattle.greedy.specs.declared.run.Progress.{Progress}
-use Rattle.greedy.specs.Results.{after, roomFor, writtenBy}
+use Rattle.model.specs.Search.{Waiting, Move, Moved, names, opens, findsSpent, isOpening, isSpent, namedIn, answerOf, waitHalves, moveOf, movesFrom}
+use Rattle.moves.specs.declared.progress.Progress.{Progress}
+use Rattle.moves.specs.Ground.{Ground, rootWaits, movesOf}
+use Rattle.moves.specs.Results.{after, roomFor, writtenBy}
 
 -- ---- one move more
 
@@ -57,12 +58,12 @@ flat-write (r ∷ ps) p (x ∷ y ∷ out) l =
 -- ---- the course
 
 -- f waits; so many pairs are listed, so many nodes were opened, the allowance was found spent or not; the answer slice was out₀ and is out
-pub record Course (h : ℕ) (ys : List ℕ) (k allowance : ℕ) (f : List Waiting) (listed openings : ℕ) (spent : Bool) (out₀ out : List ℕ) : Type 0 where
+pub record Course (G : Ground) (k allowance : ℕ) (f : List Waiting) (listed openings : ℕ) (spent : Bool) (out₀ out : List ℕ) : Type 0 where
   pub moves : List Move
   pub todo : ℕ
   pub goal : todo + listed ≡ k
-  pub path : searchMoves h ys k allowance
-      ≡ moves ++ cond spent [] (movesFrom (countIn ys) (occupied ys) (todo + (allowance - openings)) todo (allowance - openings) f)
+  pub path : movesOf G k allowance
+      ≡ moves ++ cond spent [] (movesFrom (G .count) (G .lives) (todo + (allowance - openings)) todo (allowance - openings) f)
   pub named : length (namedIn moves) ≡ listed
   pub opened : tally isOpening moves ≡ openings
   pub covered : openings ≤ allowance
@@ -70,12 +71,12 @@ pub record Course (h : ℕ) (ys : List ℕ) (k allowance : ℕ) (f : List Waitin
   pub written : out ≡ overwrite (flat (namedIn moves)) out₀
   pub size : length out ≡ length out₀
 
-pub course-begin : (h : ℕ) (ys : List ℕ) (k allowance : ℕ) (out : List ℕ) → Course h ys k allowance (begin h ys) 0 0 false out out
-course-begin h ys k allowance out = record {
+pub course-begin : (G : Ground) (k allowance : ℕ) (out : List ℕ) → Course G k allowance (rootWaits G) 0 0 false out out
+course-begin G k allowance out = record {
   moves = [];
   todo = k;
   goal = add-zero k;
-  path = ap (λ (left : ℕ). movesFrom (countIn ys) (occupied ys) (k + left) k left (begin h ys)) (omega arith);
+  path = ap (λ (left : ℕ). movesFrom (G .count) (G .lives) (k + left) k left (rootWaits G)) (omega arith);
   named = refl;
   opened = refl;
   covered = omega arith;
@@ -85,17 +86,17 @@ course-begin h ys k allowance out = record {
 }
 
 -- the moves from a node on, of which one at least is to do
-module _ (h : ℕ) (ys : List ℕ) (k allowance : ℕ) (out₀ out : List ℕ) (listed openings : ℕ) (w : Waiting) (rest : List Waiting)
-    (C : Course h ys k allowance (w ∷ rest) listed openings false out₀ out) (more : listed < k) (left : ℕ) (is : left ≡ allowance - openings) where
-  next : searchMoves h ys k allowance
-      ≡ C .moves ++ movesFrom (countIn ys) (occupied ys) (suc (C .todo - 1 + left)) (suc (C .todo - 1)) left (w ∷ rest)
+module _ (G : Ground) (k allowance : ℕ) (out₀ out : List ℕ) (listed openings : ℕ) (w : Waiting) (rest : List Waiting)
+    (C : Course G k allowance (w ∷ rest) listed openings false out₀ out) (more : listed < k) (left : ℕ) (is : left ≡ allowance - openings) where
+  next : movesOf G k allowance
+      ≡ C .moves ++ movesFrom (G .count) (G .lives) (suc (C .todo - 1 + left)) (suc (C .todo - 1)) left (w ∷ rest)
   next =
       let g = C .goal in
       let e : C .todo ≡ suc (C .todo - 1) = omega arith in
       let f : C .todo + (allowance - openings) ≡ suc (C .todo - 1 + left) = omega arith in
-      C .path ∙ (λ i. C .moves ++ movesFrom (countIn ys) (occupied ys) (f i) (e i) (sym is i) (w ∷ rest))
+      C .path ∙ (λ i. C .moves ++ movesFrom (G .count) (G .lives) (f i) (e i) (sym is i) (w ∷ rest))
 
-  append : (m : Move) (ms : List Move) → searchMoves h ys k allowance ≡ C .moves ++ (m ∷ ms) → searchMoves h ys k allowance ≡ (C .moves ++ (m ∷ [])) ++ ms
+  append : (m : Move) (ms : List Move) → movesOf G k allowance ≡ C .moves ++ (m ∷ ms) → movesOf G k allowance ≡ (C .moves ++ (m ∷ [])) ++ ms
   append m ms e = e ∙ sym (append-assoc (C .moves) (m ∷ []) ms)
 
   count-opened : (m : Move) → tally isOpening (C .moves ++ (m ∷ [])) ≡ openings + tally isOpening (m ∷ [])
@@ -112,19 +113,19 @@ module _ (h : ℕ) (ys : List ℕ) (k allowance : ℕ) (out₀ out : List ℕ) (
 abbrev pub fuelOf : ℕ → ℕ → Progress → ℕ
 fuelOf k allowance p = cond (p .spent) 0 (suc (k - p .listed + (allowance - p .openings)))
 
-module _ (h : ℕ) (ys : List ℕ) (k allowance : ℕ) (out₀ out : List ℕ) (listed openings : ℕ) (more : listed < k) (rest : List Waiting) (c : ℕ) where
+module _ (G : Ground) (k allowance : ℕ) (out₀ out : List ℕ) (listed openings : ℕ) (more : listed < k) (rest : List Waiting) (c : ℕ) where
   abbrev At : Node → Type 0
-  At n = Course h ys k allowance (record { block = n; count = c } ∷ rest) listed openings false out₀ out
+  At n = Course G k allowance (record { block = n; count = c } ∷ rest) listed openings false out₀ out
 
   abbrev P : ℕ → Progress
   P x = record { waiting = x; listed = listed; openings = openings; spent = false }
 
   abbrev moved : ℕ → Node → Moved
-  moved left n = moveOf (countIn ys) (occupied ys) left n c rest
+  moved left n = moveOf (G .count) (G .lives) left n c rest
 
   -- each move of the search goes on with its course
   pub course-step : (left : ℕ) (n : Node) → left ≡ allowance - openings → At n → (x y : ℕ) → roomFor (moved left n .move) listed out
-      → Course h ys k allowance (moved left n .waiting) (after (moved left n .move) (P x) y .listed) (after (moved left n .move) (P x) y .openings)
+      → Course G k allowance (moved left n .waiting) (after (moved left n .move) (P x) y .listed) (after (moved left n .move) (P x) y .openings)
       (after (moved left n .move) (P x) y .spent) out₀ (writtenBy (moved left n .move) listed out)
   course-step left (node zero q) is C x y room =
       let w : Waiting = record { block = node zero q; count = c } in
@@ -136,36 +137,36 @@ module _ (h : ℕ) (ys : List ℕ) (k allowance : ℕ) (out₀ out : List ℕ) (
         moves = C .moves ++ (names p ∷ []);
         todo = C .todo - 1;
         goal = omega arith;
-        path = append h ys k allowance out₀ out listed openings w rest C more (allowance - openings) refl (names p)
-            (movesFrom (countIn ys) (occupied ys) (C .todo - 1 + (allowance - openings)) (C .todo - 1) (allowance - openings) rest)
-            (next h ys k allowance out₀ out listed openings w rest C more (allowance - openings) refl);
+        path = append G k allowance out₀ out listed openings w rest C more (allowance - openings) refl (names p)
+            (movesFrom (G .count) (G .lives) (C .todo - 1 + (allowance - openings)) (C .todo - 1) (allowance - openings) rest)
+            (next G k allowance out₀ out listed openings w rest C more (allowance - openings) refl);
         named = ap length e ∙ length-append (namedIn (C .moves)) (p ∷ []) ∙ ap (λ (n : ℕ). n + 1) (C .named);
-        opened = omega (arith, count-opened h ys k allowance out₀ out listed openings w rest C more left is (names p));
+        opened = omega (arith, count-opened G k allowance out₀ out listed openings w rest C more left is (names p));
         covered = C .covered;
-        found = found-on h ys k allowance out₀ out listed openings w rest C more left is (names p) false refl;
+        found = found-on G k allowance out₀ out listed openings w rest C more left is (names p) false refl;
         written = (λ i. set (set (C .written i) (2 * sym (C .named) i) q) (2 * sym (C .named) i + 1) c)
             ∙ sym (flat-write (namedIn (C .moves)) p out₀ r) ∙ ap (λ (ps : List Pair). overwrite (flat ps) out₀) (sym e);
         size = length-set (set out (2 * listed) q) (2 * listed + 1) c ∙ length-set out (2 * listed) q ∙ C .size;
       }
   course-step zero (node (suc l) q) is C x y room =
       let w : Waiting = record { block = node (suc l) q; count = c } in
-      let s = silent h ys k allowance out₀ out listed openings w rest C more zero is findsSpent refl in
+      let s = silent G k allowance out₀ out listed openings w rest C more zero is findsSpent refl in
       record {
         moves = C .moves ++ (findsSpent ∷ []);
         todo = C .todo;
         goal = C .goal;
-        path = next h ys k allowance out₀ out listed openings w rest C more zero is ∙ sym (append-nil (C .moves ++ (findsSpent ∷ [])));
+        path = next G k allowance out₀ out listed openings w rest C more zero is ∙ sym (append-nil (C .moves ++ (findsSpent ∷ [])));
         named = ap length s ∙ C .named;
-        opened = omega (arith, count-opened h ys k allowance out₀ out listed openings w rest C more zero is findsSpent);
+        opened = omega (arith, count-opened G k allowance out₀ out listed openings w rest C more zero is findsSpent);
         covered = C .covered;
-        found = found-on h ys k allowance out₀ out listed openings w rest C more zero is findsSpent true refl;
+        found = found-on G k allowance out₀ out listed openings w rest C more zero is findsSpent true refl;
         written = C .written ∙ ap (λ (ps : List Pair). overwrite (flat ps) out₀) (sym s);
         size = C .size;
       }
   course-step (suc left) (node (suc l) q) is C x y room =
       let n : Node = node (suc l) q in
       let w : Waiting = record { block = n; count = c } in
-      let s = silent h ys k allowance out₀ out listed openings w rest C more (suc left) is (opens n) refl in
+      let s = silent G k allowance out₀ out listed openings w rest C more (suc left) is (opens n) refl in
       let g = C .goal in
       let fuel : C .todo - 1 + suc left ≡ suc (C .todo - 1) + (allowance - (openings + 1)) = omega arith in
       let less : suc left - 1 ≡ allowance - (openings + 1) = omega arith in
@@ -173,30 +174,30 @@ module _ (h : ℕ) (ys : List ℕ) (k allowance : ℕ) (out₀ out : List ℕ) (
         moves = C .moves ++ (opens n ∷ []);
         todo = suc (C .todo - 1);
         goal = omega arith;
-        path = append h ys k allowance out₀ out listed openings w rest C more (suc left) is (opens n)
-            (movesFrom (countIn ys) (occupied ys) (suc (C .todo - 1) + (allowance - (openings + 1))) (suc (C .todo - 1)) (allowance - (openings + 1))
-            (waitHalves (countIn ys) (occupied ys) l q rest))
-            (next h ys k allowance out₀ out listed openings w rest C more (suc left) is
-            ∙ ap₂ (λ (j t : ℕ). C .moves ++ (opens n ∷ movesFrom (countIn ys) (occupied ys) j (suc (C .todo - 1)) t
-            (waitHalves (countIn ys) (occupied ys) l q rest))) fuel less);
+        path = append G k allowance out₀ out listed openings w rest C more (suc left) is (opens n)
+            (movesFrom (G .count) (G .lives) (suc (C .todo - 1) + (allowance - (openings + 1))) (suc (C .todo - 1)) (allowance - (openings + 1))
+            (waitHalves (G .count) (G .lives) l q rest))
+            (next G k allowance out₀ out listed openings w rest C more (suc left) is
+            ∙ ap₂ (λ (j t : ℕ). C .moves ++ (opens n ∷ movesFrom (G .count) (G .lives) j (suc (C .todo - 1)) t
+            (waitHalves (G .count) (G .lives) l q rest))) fuel less);
         named = ap length s ∙ C .named;
-        opened = omega (arith, count-opened h ys k allowance out₀ out listed openings w rest C more (suc left) is (opens n));
+        opened = omega (arith, count-opened G k allowance out₀ out listed openings w rest C more (suc left) is (opens n));
         covered = omega arith;
-        found = found-on h ys k allowance out₀ out listed openings w rest C more (suc left) is (opens n) false refl;
+        found = found-on G k allowance out₀ out listed openings w rest C more (suc left) is (opens n) false refl;
         written = C .written ∙ ap (λ (ps : List Pair). overwrite (flat ps) out₀) (sym s);
         size = C .size;
       }
 
   -- a document that is named finds room
-  pub course-room : (left : ℕ) (n : Node) → left ≡ allowance - openings → At n → 2 * length (namedIn (searchMoves h ys k allowance)) ≤ length out
+  pub course-room : (left : ℕ) (n : Node) → left ≡ allowance - openings → At n → 2 * length (namedIn (movesOf G k allowance)) ≤ length out
       → roomFor (moved left n .move) listed out
   course-room left (node zero q) is C room =
       let w : Waiting = record { block = node zero q; count = c } in
       let p : Pair = record { document = q; count = c } in
-      let ms : List Move = movesFrom (countIn ys) (occupied ys) (C .todo - 1 + left) (C .todo - 1) left rest in
+      let ms : List Move = movesFrom (G .count) (G .lives) (C .todo - 1 + left) (C .todo - 1) left rest in
       omega (
         arith,
-        ap (λ (l : List Move). length (namedIn l)) (next h ys k allowance out₀ out listed openings w rest C more left is),
+        ap (λ (l : List Move). length (namedIn l)) (next G k allowance out₀ out listed openings w rest C more left is),
         ap length (named-append (C .moves) (names p ∷ ms)),
         length-append (namedIn (C .moves)) (p ∷ namedIn ms),
         C .named,
@@ -212,13 +213,13 @@ module _ (h : ℕ) (ys : List ℕ) (k allowance : ℕ) (out₀ out : List ℕ) (
 
 -- ---- the end
 
-module _ (h : ℕ) (ys : List ℕ) (k allowance : ℕ) (f : List Waiting) (listed openings : ℕ) (spent : Bool) (out₀ out : List ℕ)
-    (C : Course h ys k allowance f listed openings spent out₀ out) where
-  no-moves : (fuel left : ℕ) (f : List Waiting) → movesFrom (countIn ys) (occupied ys) fuel 0 left f ≡ []
+module _ (G : Ground) (k allowance : ℕ) (f : List Waiting) (listed openings : ℕ) (spent : Bool) (out₀ out : List ℕ)
+    (C : Course G k allowance f listed openings spent out₀ out) where
+  no-moves : (fuel left : ℕ) (f : List Waiting) → movesFrom (G .count) (G .lives) fuel 0 left f ≡ []
   no-moves zero left f = refl
   no-moves (suc fuel) left f = refl
 
-  no-nodes : (fuel todo left : ℕ) → movesFrom (countIn ys) (occupied ys) fuel todo left [] ≡ []
+  no-nodes : (fuel todo left : ℕ) → movesFrom (G .count) (G .lives) fuel todo left [] ≡ []
   no-nodes zero todo left = refl
   no-nodes (suc fuel) zero left = refl
   no-nodes (suc fuel) (suc todo) left = refl
@@ -227,13 +228,13 @@ module _ (h : ℕ) (ys : List ℕ) (k allowance : ℕ) (f : List Waiting) (liste
   same true = refl
   same false = refl
 
-  pub course-end : (spent ≡ true) ⊎ ((f ≡ []) ⊎ (k ≤ listed)) → searchMoves h ys k allowance ≡ C .moves
+  pub course-end : (spent ≡ true) ⊎ ((f ≡ []) ⊎ (k ≤ listed)) → movesOf G k allowance ≡ C .moves
   course-end d = C .path ∙ ap (λ (ms : List Move). C .moves ++ ms) (go d) ∙ append-nil (C .moves)
     where
       left : ℕ
       left = allowance - openings
 
-      go : (spent ≡ true) ⊎ ((f ≡ []) ⊎ (k ≤ listed)) → cond spent [] (movesFrom (countIn ys) (occupied ys) (C .todo + left) (C .todo) left f) ≡ []
+      go : (spent ≡ true) ⊎ ((f ≡ []) ⊎ (k ≤ listed)) → cond spent [] (movesFrom (G .count) (G .lives) (C .todo + left) (C .todo) left f) ≡ []
       go (inl e) = rw e
       go (inr (inl e)) = rw (e, no-nodes (C .todo + left) (C .todo) left) (same spent)
       go (inr (inr l)) =

@@ -1,11 +1,11 @@
 -- `answer_of`: by the cases of how the search ended.
 use mathlib.Core.Path.{sym, ap}
 use Rattle.model.specs.Outcome.{answered}
-use Rattle.greedy.specs.declared.Ended.{Ended}
-use Rattle.greedy.specs.Results.{endedIs}
+use Rattle.moves.specs.declared.Ended.{Ended}
+use Rattle.moves.specs.Results.{endedIs}
 use borrow.Author.Needs.{needs}
-use Rattle.top_k.proofs.operations.answer_of.Statement.{statement}
-use Rattle.top_k.proofs.operations.answer_of.Tie as tie
+use Rattle.moves.proofs.progress.answer_of.Statement.{statement}
+use Rattle.moves.proofs.progress.answer_of.Tie as tie
 
 enum-known-e : tie.Need-enum-known-e
 enum-known-e c = search needs
