@@ -11,12 +11,12 @@ use Rattle.bits.specs.Sequences.{tally}
 use Rattle.model.specs.Lists.{any, Within}
 use Rattle.model.specs.Queries.{Pair}
 use Rattle.model.specs.TopK.{Node, node, countIn, fullList, need, covered, done, spent, topK, pairsOf}
-use Rattle.model.specs.Search.{Waiting, isOpening, isSpent, namedIn, answerOf, wait, movesFrom, occupied, searchMoves}
+use Rattle.model.specs.Search.{Waiting, isOpening, isSpent, answerOf, wait, movesFrom, occupied, searchMoves}
 use Rattle.model.proofs.Lists.{within-le}
 use Rattle.model.proofs.Greedy.Abstract.{Counted, needBy, answerBy, needFor, topKOf}
 use Rattle.model.proofs.Greedy.Moves.{wait-join, moves-visits, answer-moves, tollOf, pairsIn}
 use Rattle.model.proofs.Greedy.Order.{root, order, order-ends, order-need, order-ranking}
-use Rattle.model.proofs.Greedy.Answers.{answerBy-same, answerBy-mono, figureOf, isDone, figure-answer, pairs-answer, done-answer}
+use Rattle.model.proofs.Greedy.Answers.{answerBy-same, answerBy-mono, figureOf, isDone, figure-answer, done-answer}
 use Rattle.model.proofs.Greedy.Counts.{counted, outside, begin-root, topK-answerBy, topKOf-topK}
 
 -- over any count that never rises from a node to its halves, where of the numbers below 2 ^ h only those below N live
@@ -50,10 +50,6 @@ module _ (h N : ℕ) (fits : N ≤ 2 ^ h) (xs : List ℕ) (within : Within N xs)
   -- the openings figure is the number of moves that opened a node
   pub openings : figureOf (topK h N xs k allowance) ≡ tally isOpening (searchMoves h xs k allowance)
   openings = ap figureOf (sym (greedy h N fits xs within k allowance)) ∙ figure-answer (searchMoves h xs k allowance)
-
-  -- the documents listed are those that the moves named
-  pub named : pairsOf (topK h N xs k allowance) ≡ namedIn (searchMoves h xs k allowance)
-  named = ap pairsOf (sym (greedy h N fits xs within k allowance)) ∙ pairs-answer (searchMoves h xs k allowance)
 
   -- no move finds the allowance spent exactly where it covers the need of the full list
   pub done-covered : not (any isSpent (searchMoves h xs k allowance)) ≡ leb (need h xs (fullList N k xs)) allowance

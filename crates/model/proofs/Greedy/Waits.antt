@@ -11,16 +11,16 @@ use borrow.Author.Tests.{lt-ltb, eq-eqb}
 use Rattle.bits.specs.Sequences.{tally, below}
 use Rattle.bits.proofs.Tally.{tally-append, tally-le-length, length-upFrom, tally-map}
 use Rattle.bits.proofs.Tests.{or-left, or-right, both-and}
-use Rattle.model.specs.Lists.{Within, Every}
-use Rattle.model.specs.TopK.{Node, node, countIn, start}
-use Rattle.model.specs.Search.{Waiting, wait, waitHalves, moveOf, begin, occupied, prior}
+use Rattle.model.specs.Lists.{Every}
+use Rattle.model.specs.TopK.{Node, node, start}
+use Rattle.model.specs.Search.{Waiting, wait, waitHalves, moveOf, prior}
 use Rattle.model.specs.Frontier.{waiting, nodes, allUnder, Ready, blocks, Waits, aheadNode, under, place}
 use Rattle.model.proofs.Sorting.{every-head, every-tail, every-cons}
 use Rattle.model.proofs.Greedy.Abstract.{Counted}
 use Rattle.model.proofs.Greedy.Nodes.{living, leafly, leaf-under, living-documents, start-leaf, start-le-place, place-le-start}
 use Rattle.model.proofs.Greedy.Frontier.{join, halves, ready-root, ready-name, ready-open, ready-apart, priorNode}
 use Rattle.model.proofs.Greedy.Moves.{wait-join, wait-halves}
-use Rattle.model.proofs.Greedy.Counts.{counted, outside, begin-root}
+use Rattle.model.proofs.Greedy.Counts.{counted, outside}
 use Rattle.model.proofs.Priority.{Ahead, ahead-true}
 
 pub blocks-waiting : (count : Node → ℕ) (ms : List Node) → blocks (map (waiting count) ms) ≡ ms
@@ -119,12 +119,3 @@ module _ (count : Node → ℕ) (lives : Node → Bool) (counted : Counted count
         tally-le-length (λ d. lives (node zero d) && true) (below N),
         length-upFrom 0 N,
       )
-
--- ---- for the count of entries
-
-pub waits-begin : (h : ℕ) (xs : List ℕ) → Within (2 ^ h) xs → Waits (countIn xs) (occupied xs) h (begin h xs)
-waits-begin h xs within = rw (begin-root h xs within) (waits-root (countIn xs) (occupied xs) h)
-
-pub frontier-length : (h N : ℕ) → N ≤ 2 ^ h → (xs : List ℕ) → Within N xs → (frontier : List Waiting)
-    → Waits (countIn xs) (occupied xs) h frontier → length frontier ≤ N
-frontier-length h N fits xs within = waits-length (countIn xs) (occupied xs) (counted xs) h N fits (λ d l u. outside N xs within d l)
