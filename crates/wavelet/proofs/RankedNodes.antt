@@ -6,14 +6,14 @@ use mathlib.Core.Path.{_≡_, ap}
 use mathlib.Core.List.{List}
 use Rattle.bits.specs.Sequences.{rank}
 use Rattle.model.specs.Walk.{left}
-use Rattle.model.proofs.Wavelet.Counts.{ones-mono, ones-step, left-le}
+use Rattle.model.proofs.Wavelet.Counts.{left-le}
 use Rattle.wavelet.specs.declared.Ranked.{Ranked}
 use Rattle.wavelet.specs.declared.Halves.{Halves}
 use Rattle.wavelet.specs.Spans.{Ordered, halvesOf, rankedOf, spanIn}
 use Rattle.wavelet.proofs.Spans.{left-is}
 
 module _ (bits : List ℕ) (n : ℕ) (node : Ranked) (p : node ≡ rankedOf bits (node .start) (node .end)) (lo hi : ℕ) (o : Ordered n (spanIn node lo hi)) where
-  before-is : node .before ≡ rank 1 bits (node .start)
+  pub before-is : node .before ≡ rank 1 bits (node .start)
   before-is = ap (λ (r : Ranked). r .before) p
 
   middle-is : node .middle ≡ left bits (node .start) (node .end)
@@ -21,13 +21,6 @@ module _ (bits : List ℕ) (n : ℕ) (node : Ranked) (p : node ≡ rankedOf bits
 
   start-hi : node .start ≤ hi
   start-hi = le-trans (o .from) (o .range)
-
-  -- the ones of the node before each place of the range
-  pub ranked-lo : (l : ℕ) → l ≡ rank 1 bits lo → (node .before ≤ l) × (l - node .before ≤ lo)
-  ranked-lo l pl = let q = before-is in let f = o .from in (omega (arith, ones-mono bits (node .start) lo (o .from)), omega (arith, ones-step bits (node .start) lo (o .from)))
-
-  pub ranked-hi : (h : ℕ) → h ≡ rank 1 bits hi → (node .before ≤ h) × (h - node .before ≤ hi)
-  ranked-hi h ph = let q = before-is in let f = start-hi in (omega (arith, ones-mono bits (node .start) hi start-hi), omega (arith, ones-step bits (node .start) hi start-hi))
 
   pub middle-few : node .middle ≤ n
   middle-few = omega (arith, middle-is, left-le bits (node .start) (node .end) (le-trans start-hi (o .to)), o .inside)

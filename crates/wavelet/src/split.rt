@@ -1,9 +1,10 @@
-// Several ranges in one node: the node is ranked once, and each range then needs two ranks to be halved.
+// Several ranges in one node: the node is ranked once, and each range then needs two ranks to be halved. A rank goes on from the one before it.
 use crate::Halves;
 use crate::Levels;
 use crate::Ranked;
 use crate::Span;
 use crate::level::ones;
+use crate::level::ones_from;
 ghost use mathlib.Core.Path.{_≡_};
 ghost use Prim.Native.Nat.{_≤_, _<_};
 ghost use Rattle.wavelet.specs.Levels.{Stored, levelOf};
@@ -16,7 +17,8 @@ pub fn rank_node(bytes: &[u8], t: Levels, j: usize, start: usize, end: usize) ->
     ensures { λ r. ⌜ r ≡ rankedOf (levelOf (now (bytes .entry)) t j) start end ⌝ }
 {
     let before = ones(bytes, t, j, start);
-    let middle = end - (ones(bytes, t, j, end) - before);
+    let all = ones_from(bytes, t, j, start, before, end);
+    let middle = end - (all - before);
     Ranked {
         start,
         end,
@@ -31,8 +33,9 @@ pub fn halve_range(bytes: &[u8], t: Levels, j: usize, node: Ranked, lo: usize, h
     requires { ⌜ (j < t .height) × (node ≡ rankedOf (levelOf (now bytes) t j) (node .start) (node .end)) × Ordered (t .entries) (spanIn node lo hi) ⌝ }
     ensures { λ r. ⌜ (r ≡ halvesOf (levelOf (now (bytes .entry)) t j) (spanIn node lo hi)) × Ordered (t .entries) (r .low) × Ordered (t .entries) (r .high) ⌝ }
 {
-    let from = ones(bytes, t, j, lo) - node.before;
-    let to = ones(bytes, t, j, hi) - node.before;
+    let below = ones_from(bytes, t, j, node.start, node.before, lo);
+    let from = below - node.before;
+    let to = ones_from(bytes, t, j, lo, below, hi) - node.before;
     let low = Span {
         start: node.start,
         lo: lo - from,

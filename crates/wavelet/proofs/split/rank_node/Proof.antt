@@ -1,8 +1,6 @@
 use borrow.Author.Needs.{needs}
 use Prim.Native.Nat.{ℕ}
-use native.Mathlib.Omega.{arith}
 use mathlib.Core.List.{List}
-use Rattle.model.proofs.Wavelet.Counts.{ones-mono}
 use Rattle.wavelet.specs.Levels.{levelOf}
 use Rattle.wavelet.proofs.Spans.{left-is}
 use Rattle.wavelet.proofs.split.rank_node.Statement.{statement}
@@ -11,13 +9,11 @@ use Rattle.wavelet.proofs.split.rank_node.Tie as tie
 ones-requires : tie.Need-ones-requires
 ones-requires c κs = search needs
 
-ones-requires-2 : tie.Need-ones-requires-2
-ones-requires-2 c κs = search needs
+ones-from-requires : tie.Need-ones-from-requires
+ones-from-requires c κs = search needs
 
 sub-middle : tie.Need-sub-middle
-sub-middle c =
-    let g = c .before .before .before .args in
-    omega (arith, ones-mono (levelOf (g .bytes .now) (g .t) (g .j)) (g .start) (g .end) (omega arith))
+sub-middle c = search needs
 
 sub-middle-2 : tie.Need-sub-middle-2
 sub-middle-2 c = search needs
@@ -28,8 +24,8 @@ returns c =
     let g = s .args in
     let bits : List ℕ = levelOf (g .bytes .now) (g .t) (g .j) in
     let start = c .before .ones .ensures .0 in
-    let middle = left-is bits (g .start) (g .end) (c .before .ones .result) (c .ones2 .result) (s .pre .1 .1) start (c .ones2 .ensures .0) in
+    let middle = left-is bits (g .start) (g .end) (c .before .ones .result) (c .ones-from .result) (s .pre .1 .1) start (c .ones-from .ensures .0) in
     λ i. record { start = g .start; end = g .end; before = start i; middle = middle i }
 
 pub rank-node-spec : {M : Type 1} → statement M
-rank-node-spec = tie.close (tie.spec ones-requires ones-requires-2 sub-middle sub-middle-2 returns)
+rank-node-spec = tie.close (tie.spec ones-requires ones-from-requires sub-middle sub-middle-2 returns)
