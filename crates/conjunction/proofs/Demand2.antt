@@ -21,8 +21,8 @@ use Rattle.answers.specs.declared.Answer.{Answer}
 use Rattle.answers.specs.declared.Answer.the-variants.{Number, Refused}
 use Rattle.answers.specs.declared.Placed.{Placed}
 use Rattle.answers.specs.Answers.{numberOf, placeOf, pairsOf}
-use Rattle.conjunction.specs.declared.Terms.{Terms}
-use Rattle.conjunction.specs.Conjunction.{Asked}
+use Rattle.paths.specs.declared.Terms.{Terms}
+use Rattle.paths.specs.Paths.{Asked}
 
 -- so many pairs are answered; they stand in the front of the answers, and the rest is untouched
 pub record Pairs (ps : List Pair) (r : Answer) (before after : List ℕ) : Type 0 where

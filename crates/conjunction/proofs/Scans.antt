@@ -15,8 +15,8 @@ use Rattle.bits.proofs.Tests.{look, le-or-lt, and-both}
 use Rattle.bits.proofs.Tally.{length-upFrom}
 use Rattle.wavelet.specs.declared.Span.{Span}
 use Rattle.conjunction.specs.Conjunction.{commonCount}
-use Rattle.conjunction.specs.Paths.{frameOf, rangeIn, countAt, Whole, Right}
-use Rattle.conjunction.proofs.Openings.{Dead}
+use Rattle.paths.specs.Paths.{frameOf, rangeIn, countAt, Whole, Right}
+use Rattle.paths.proofs.Openings.{Dead}
 
 sum-pos : (cs : List ℕ) → all (ltb 0) cs ≡ true → 1 ≤ length cs → 0 < sum cs
 sum-pos [] e l = absurd (omega arith)

@@ -12,15 +12,16 @@ use Rattle.model.specs.Queries.{countsUnder}
 use Rattle.wavelet.specs.declared.Span.{Span}
 use Rattle.archive.specs.declared.Layout.{Layout}
 use Rattle.archive.specs.Layout.{Opened}
+use Rattle.paths.specs.declared.Terms.{Terms}
+use Rattle.paths.specs.Paths.{Asked, frameOf, countAt, termSpan, Whole, Right, Held}
+use Rattle.paths.proofs.Frames.{held-at}
 use Rattle.conjunction.specs.declared.common.Next.the-variants.{Document}
-use Rattle.conjunction.specs.declared.Terms.{Terms}
 use Rattle.conjunction.specs.declared.common.Node.{Node}
-use Rattle.conjunction.specs.Conjunction.{Asked, commonCount, nextCommon, nextIs, nextOf}
-use Rattle.conjunction.specs.Paths.{frameOf, countAt, termSpan, Whole, Right, Held, afterOf}
-use Rattle.conjunction.proofs.Paths.{held-at}
+use Rattle.conjunction.specs.Conjunction.{commonCount, nextCommon, nextIs, nextOf}
+use Rattle.conjunction.specs.Orders.{afterOf}
 use Rattle.conjunction.proofs.Scans.{common-some, scan-whole, scan-dead}
 use Rattle.conjunction.proofs.Searches.{Searching, searching-past, searching-found}
-use Rattle.conjunction.proofs.TermSpans.{dead-matches, leaf-counts}
+use Rattle.conjunction.proofs.TermCounts.{dead-matches, leaf-counts}
 
 module _ (bytes : List ℕ) (l : Layout) (o : Opened bytes l) (q : Terms) (a : Asked (l .terms) q) (eight : length (q .numbers) ≡ 8) (from : ℕ) where
   abbrev span : ℕ → ℕ → ℕ → Span
@@ -32,7 +33,7 @@ module _ (bytes : List ℕ) (l : Layout) (o : Opened bytes l) (q : Terms) (a : A
   module _ {path : List ℕ} {x : Node} (k : Searching span (q .size) of-terms (l .levels .height) from path x) (m : x .number < 2 ^ x .level)
       (frame : ℕ) (f : frame ≡ frameOf (x .level) (x .number)) (n : ℕ) (e : n ≡ commonCount (map (countAt path frame) (below (q .size)))) where
     right : Right span (q .size) path (x .level) (x .number)
-    right = held-at span (q .size) path (x .level) (x .number) m (k .held)
+    right = held-at (Right span (q .size)) path (x .level) (x .number) m (k .held)
 
     count-is : n ≡ commonCount (map (countAt path (frameOf (x .level) (x .number))) (below (q .size)))
     count-is = e ∙ ap (λ (y : ℕ). commonCount (map (countAt path y) (below (q .size)))) f

@@ -15,9 +15,10 @@ use Rattle.bits.specs.Bits.{sum}
 use Rattle.bits.proofs.Tests.{look, le-or-lt}
 use Rattle.wavelet.specs.declared.Span.{Span}
 use Rattle.conjunction.specs.declared.common.Node.{Node}
+use Rattle.paths.specs.Paths.{Right, Held}
+use Rattle.paths.proofs.Frames.{held-by}
 use Rattle.conjunction.specs.Conjunction.{nextCommon, nextIs, noFurther}
-use Rattle.conjunction.specs.Paths.{Held, Ready, at, afterOf, resumeOf}
-use Rattle.conjunction.proofs.Paths.{held-after}
+use Rattle.conjunction.specs.Orders.{Ready, at, afterOf, resumeOf}
 use Rattle.conjunction.proofs.Commons.{matches, Passed, next-found, next-nothing}
 
 -- ---- the order of the nodes
@@ -47,6 +48,19 @@ resume-first h (suc d) e = absurd (omega arith)
 pub resume-later : (h from : ℕ) → (from ≡ 0 → ⊥) → afterOf h (from - 1) ≡ resumeOf h from
 resume-later h zero e = absurd (e refl)
 resume-later h (suc d) e = let p : suc d - 1 ≡ d = omega arith in ap (afterOf h) p
+
+-- the path goes with it
+held-after : (span : ℕ → ℕ → ℕ → Span) (size : ℕ) (path : List ℕ) (j q : ℕ) → Held span size path j q → Held span size path (afterOf j q .level) (afterOf j q .number)
+held-after span size path zero q h = h
+held-after span size path (suc j) q h = go (look (eqb (q % 2) 1)) (held-after span size path j (q / 2) (h .2))
+  where
+    go : (eqb (q % 2) 1 ≡ true) ⊎ (eqb (q % 2) 1 ≡ false) → Held span size path (afterOf j (q / 2) .level) (afterOf j (q / 2) .number)
+        → Held span size path (afterOf (suc j) q .level) (afterOf (suc j) q .number)
+    go (inl e) up = rw e up
+    go (inr e) up =
+        let n = eqb-false (q % 2) 1 e in
+        let p : q / 2 ≡ (q + 1) / 2 = omega arith in
+        rw e (held-by (Right span size) path j (q / 2) (q + 1) p (h .0) (h .1) (h .2))
 
 -- a node of the tree or the one past the root, whose numbers start at s
 pub record Stands (h : ℕ) (x : Node) (s : ℕ) : Type 0 where

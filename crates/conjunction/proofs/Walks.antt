@@ -24,9 +24,10 @@ use Rattle.archive.proofs.Opened.{fitting, entries-size, entries-within}
 use Rattle.answers.specs.Written.{Written}
 use Rattle.answers.proofs.Occurrences.{keep-none, occurs-lt}
 use Rattle.answers.proofs.Stores.{written-none, written-pair, written-both, written-front}
-use Rattle.conjunction.specs.declared.Terms.{Terms}
-use Rattle.conjunction.specs.Conjunction.{Asked, nextCommon, nextIs, noFurther}
-use Rattle.conjunction.proofs.TermSpans.{size-is}
+use Rattle.paths.specs.declared.Terms.{Terms}
+use Rattle.paths.specs.Paths.{Asked}
+use Rattle.paths.proofs.TermSpans.{size-is}
+use Rattle.conjunction.specs.Conjunction.{nextCommon, nextIs, noFurther}
 use Rattle.conjunction.proofs.Commons.{matches, Passed, next-first, next-none}
 use mir.Val.{Fits}
 use mir.Syntax.{w64}

@@ -1,25 +1,13 @@
--- The terms of a conjunction, and the next document that they have in common.
-use Prim.Native.Nat.{ℕ, _-_, _^_, _≤_}
+-- The next document that several terms have in common.
+use Prim.Native.Nat.{ℕ, _-_, _^_}
 use mathlib.Core.List.{List, [], _∷_}
 use mathlib.Core.Bool.{cond}
-use lib.ListN.{take}
 use lib.Dec.{ltb}
 use Rattle.bits.specs.Sequences.{all, upFrom}
 use Rattle.bits.specs.Bits.{sum}
-use Rattle.model.specs.Lists.{keep, Within}
+use Rattle.model.specs.Lists.{keep}
 use Rattle.conjunction.specs.declared.common.Next.{Next}
 use Rattle.conjunction.specs.declared.common.Next.the-variants.{Document, Nothing}
-use Rattle.conjunction.specs.declared.Terms.{Terms}
-
--- the terms that the question holds
-abbrev pub termsOf : Terms → List ℕ
-termsOf q = take (q .size) (q .numbers)
-
--- one to eight terms, all of them among the W terms
-pub record Asked (W : ℕ) (q : Terms) : Type 0 where
-  pub some : 1 ≤ q .size
-  pub few : q .size ≤ 8
-  pub known : Within W (termsOf q)
 
 -- the sum of some counts; 0 where one of them is 0
 abbrev pub commonCount : List ℕ → ℕ

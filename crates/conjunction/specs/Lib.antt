@@ -1,3 +1,3 @@
 -- What the contracts of conjunction cite, beside the definitions of model.
 pub mod Conjunction
-pub mod Paths
+pub mod Orders

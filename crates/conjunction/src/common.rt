@@ -1,8 +1,8 @@
 // The next document that several terms have in common: down the tree with the ranges of all terms at once, past every node where one has no entry.
-use crate::Terms;
-use crate::path::frame_of;
-use crate::path::open_node;
 use archive::Layout;
+use paths::Terms;
+use paths::frame_of;
+use paths::open_node;
 ghost use mathlib.Core.Path.{_≡_};
 ghost use mathlib.Core.List.{map};
 ghost use Prim.Native.Nat.{_+_, _-_, _*_, _^_, _≤_, _<_};
@@ -11,8 +11,9 @@ ghost use Rattle.bits.specs.Sequences.{below};
 ghost use Rattle.model.specs.Opening.{contents};
 ghost use Rattle.model.specs.Queries.{countsUnder};
 ghost use Rattle.archive.specs.Layout.{Opened};
-ghost use Rattle.conjunction.specs.Conjunction.{termsOf, Asked, commonCount, nextOf, nextCommon};
-ghost use Rattle.conjunction.specs.Paths.{countAt, termSpan, Ready, HeldAt, afterOf, resumeOf};
+ghost use Rattle.paths.specs.Paths.{termsOf, Asked, countAt, termSpan};
+ghost use Rattle.conjunction.specs.Conjunction.{commonCount, nextOf, nextCommon};
+ghost use Rattle.conjunction.specs.Orders.{Ready, HeldAt, afterOf, resumeOf};
 
 // What the search for the next document answers: the document with the sum of its counts, or nothing.
 pub enum Next {

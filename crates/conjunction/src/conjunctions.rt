@@ -1,24 +1,23 @@
 // Conjunction: the documents with an entry under each of several terms, ascending, with the sum of their counts.
-use crate::Terms;
 use crate::common::Next;
 use crate::common::next_common;
-use crate::path::put_root;
 use answers::Answer;
 use answers::put_pair;
 use archive::Layout;
 use archive::Opening;
 use archive::open;
+use paths::Terms;
+use paths::put_root;
+use paths::term_missing;
 ghost use mathlib.Core.Path.{_≡_};
 ghost use Prim.Native.Nat.{_*_, _≤_};
 ghost use lib.ListN.{length};
-ghost use lib.Dec.{leb};
-ghost use Rattle.model.specs.Lists.{any};
 ghost use Rattle.model.specs.Opening.{contents};
 ghost use Rattle.model.specs.Queries as model;
 ghost use Rattle.archive.specs.Layout.{Opened};
 ghost use Rattle.answers.specs.Answers.{pairsOf};
 ghost use Rattle.answers.specs.Written.{Lists};
-ghost use Rattle.conjunction.specs.Conjunction.{termsOf, Asked};
+ghost use Rattle.paths.specs.Paths.{termsOf, Asked};
 
 // The pairs go into the front of the answers; how many. The walk ends as soon as one term has no further document.
 pub fn conjunction_in(archive: &[u8], l: Layout, q: Terms, answers: &mut [u32]) -> usize
@@ -38,23 +37,6 @@ pub fn conjunction_in(archive: &[u8], l: Layout, q: Terms, answers: &mut [u32]) 
         found += 1;
         at = document + 1;
     }
-}
-
-// Whether one of the terms is no term of the archive.
-fn term_missing(l: Layout, q: Terms) -> bool
-    requires { ⌜ q .size ≤ 8 ⌝ }
-    ensures { λ r. ⌜ r ≡ any (leb (l .terms)) (termsOf q) ⌝ }
-{
-    let size = q.size as usize;
-    let mut i: usize = 0;
-    while i < size {
-        let term = q.numbers[i] as usize;
-        if l.terms <= term {
-            return true;
-        }
-        i += 1;
-    }
-    false
 }
 
 pub fn conjunction_opened(archive: &[u8], l: Layout, q: Terms, answers: &mut [u32]) -> Answer

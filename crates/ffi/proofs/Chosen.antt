@@ -1,7 +1,7 @@
 -- Terms that are chosen in a slice: they are copied one by one, and what is asked with the copy is what is asked with the slice.
-use Prim.Native.Nat.{ℕ, suc, _+_, _*_, _<_}
+use Prim.Native.Nat.{ℕ, suc, _+_, _*_, _<_, min}
 use native.Mathlib.Omega.{arith}
-use mathlib.Core.Path.{_≡_, sym, ap, _∙_}
+use mathlib.Core.Path.{_≡_, refl, sym, ap, _∙_}
 use mathlib.Core.List.{List, [], _∷_, _++_}
 use mathlib.Core.Logic.{_⊎_, inl, inr}
 use mathlib.Core.Bool.{Bool, true, false, _||_}
@@ -11,11 +11,12 @@ use lib.Dec.{leb, ltb, eqb}
 use borrow.Author.Tests.{ltb-true, ltb-false, lt-ltb}
 use Rattle.bits.proofs.Tests.{look, or-right}
 use Rattle.model.specs.Lists.{any}
-use Rattle.model.specs.Outcome.{Outcome, answered, refused, refuse, andThen}
-use Rattle.model.specs.Format.{Library}
+use Rattle.model.specs.Outcome.{answered, refuse, andThen}
 use Rattle.model.specs.Opening.{opened}
-use Rattle.model.specs.Queries.{Pair, PairsResult, pairsInto, conjunction, conjunctionResult}
-use Rattle.conjunction.specs.declared.Terms.{Terms}
+use Rattle.model.specs.Queries.{pairsInto, conjunction, conjunctionResult}
+use Rattle.model.specs.TopK.{foundInto}
+use Rattle.model.specs.Weighted.{weightedFound, weightedResult}
+use Rattle.paths.specs.declared.Terms.{Terms}
 use Rattle.ffi.specs.Chosen.{Chosen}
 
 pub copied : (ns cs : List ℕ) (i : ℕ) → i < length ns → i < length cs → take i ns ≡ take i cs
@@ -25,33 +26,56 @@ copied ns cs i l m e =
     rw next
     (take-suc-set ns i (getD cs i 0) l ∙ ap (λ (xs : List ℕ). xs ++ (getD cs i 0 ∷ [])) e ∙ sym (take-suc cs i 0 m))
 
-module _ (bytes answers : List ℕ) where
-  -- the refusals and the answer of terms that a library is asked for
-  abbrev asked : List ℕ → Library → Outcome (List Pair)
-  asked terms lib =
-      refuse 11 (any (leb (length (lib .lengths))) terms)
-      (refuse 12 (ltb (length answers) (2 * lib .documents)) (answered (conjunction lib terms)))
-
-  abbrev resultOf : Bool → List ℕ → PairsResult
-  resultOf wrong terms = pairsInto answers (andThen (opened bytes) (λ lib. refuse 10 wrong (asked terms lib)))
-
+-- what is asked of terms alone, and of whether there are none or more than eight, is the same of the copy and of the slice, if more than eight are
+-- not looked at
+module _ {R : Type 0} (result : Bool → List ℕ → R) (unseen : (ts us : List ℕ) → result true ts ≡ result true us) where
   abbrev wrong : ℕ → Bool
   wrong size = eqb size 0 || ltb 8 size
 
-  too-many : (size : ℕ) (terms : List ℕ) → 8 < size
-      → resultOf (wrong size) terms ≡ pairsInto answers (andThen (opened bytes) (λ lib. refused 10))
-  too-many size terms m = ap (λ (b : Bool). resultOf b terms) (or-right (eqb size 0) (ltb 8 size) (lt-ltb 8 size m))
+  abbrev of : ℕ → List ℕ → R
+  of size numbers = result (wrong size) (take size numbers)
 
-  pub chosen-asked : (chosen : List ℕ) (q : Terms) → Chosen chosen q
-      → conjunctionResult bytes (q .numbers) (q .size) answers ≡ conjunctionResult bytes chosen (length chosen) answers
-  chosen-asked chosen q c = go (look (ltb 8 (length chosen)))
+  too-many : (size : ℕ) (numbers : List ℕ) → 8 < size → of size numbers ≡ result true (take size numbers)
+  too-many size numbers m = ap (λ (b : Bool). result b (take size numbers)) (or-right (eqb size 0) (ltb 8 size) (lt-ltb 8 size m))
+
+  pub chosen-same : (chosen : List ℕ) (q : Terms) → Chosen chosen q → of (q .size) (q .numbers) ≡ of (length chosen) chosen
+  chosen-same chosen q c = go (look (ltb 8 (length chosen)))
     where
-      go : (ltb 8 (length chosen) ≡ true) ⊎ (ltb 8 (length chosen) ≡ false)
-          → resultOf (wrong (q .size)) (take (q .size) (q .numbers)) ≡ resultOf (wrong (length chosen)) (take (length chosen) chosen)
+      go : (ltb 8 (length chosen) ≡ true) ⊎ (ltb 8 (length chosen) ≡ false) → of (q .size) (q .numbers) ≡ of (length chosen) chosen
       go (inl e) =
           let m = ltb-true 8 (length chosen) e in
-          too-many (q .size) (take (q .size) (q .numbers)) (c .many m) ∙ sym (too-many (length chosen) (take (length chosen) chosen) m)
+          too-many (q .size) (q .numbers) (c .many m) ∙ unseen (take (q .size) (q .numbers)) (take (length chosen) chosen)
+          ∙ sym (too-many (length chosen) chosen m)
       go (inr e) =
           let f = c .few (ltb-false 8 (length chosen) e) in
           let same = f .1 ∙ sym (take-length chosen) in
-          λ i. resultOf (wrong (f .0 i)) (same i)
+          λ i. result (wrong (f .0 i)) (same i)
+
+-- the conjunction
+pub conjunction-chosen : (bytes answers chosen : List ℕ) (q : Terms) → Chosen chosen q
+    → conjunctionResult bytes (q .numbers) (q .size) answers ≡ conjunctionResult bytes chosen (length chosen) answers
+conjunction-chosen bytes answers =
+    chosen-same
+    (λ wrong terms.
+    pairsInto answers
+    (andThen (opened bytes)
+    (λ lib.
+    refuse 10 wrong
+    (refuse 11 (any (leb (length (lib .lengths))) terms)
+    (refuse 12 (ltb (length answers) (2 * lib .documents)) (answered (conjunction lib terms)))))))
+    (λ ts us. refl)
+
+-- weighted top-k
+pub weighted-chosen : (bytes : List ℕ) (k allowance : ℕ) (answers work chosen : List ℕ) (q : Terms) → Chosen chosen q
+    → weightedResult bytes (q .numbers) (q .size) k allowance answers work ≡ weightedResult bytes chosen (length chosen) k allowance answers work
+weighted-chosen bytes k allowance answers work =
+    chosen-same
+    (λ wrong terms.
+    foundInto answers work
+    (andThen (opened bytes)
+    (λ lib.
+    refuse 10 wrong
+    (refuse 11 (any (leb (length (lib .lengths))) terms)
+    (refuse 12 (ltb (length answers) (2 * min k (lib .documents)))
+    (refuse 13 (ltb (length work) (4 * lib .documents)) (answered (weightedFound lib terms k allowance))))))))
+    (λ ts us. refl)

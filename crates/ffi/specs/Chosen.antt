@@ -3,7 +3,7 @@ use Prim.Native.Nat.{ℕ, _≤_, _<_}
 use mathlib.Core.Path.{_≡_}
 use mathlib.Core.List.{List}
 use lib.ListN.{length, take}
-use Rattle.conjunction.specs.declared.Terms.{Terms}
+use Rattle.paths.specs.declared.Terms.{Terms}
 
 -- so many terms as were chosen; of more than eight only that they are more than eight
 pub record Chosen (chosen : List ℕ) (q : Terms) : Type 0 where

@@ -1,5 +1,5 @@
-// The terms of a conjunction, from a slice that another language lends.
-use conjunction::Terms;
+// The terms of a question, from a slice that another language lends.
+use paths::Terms;
 ghost use Rattle.ffi.specs.Chosen.{Chosen};
 
 // The chosen terms as the question holds them. Nine stand for more than eight, which are refused.

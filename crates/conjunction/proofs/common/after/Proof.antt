@@ -2,7 +2,7 @@ use Prim.Native.Nat.{_^_, _≤_, _<_}
 use mathlib.Core.Path.{_≡_, refl, _∙_}
 use native.Mathlib.Omega.{arith}
 use Rattle.wavelet.proofs.Ranges.{node-few}
-use Rattle.conjunction.specs.Paths.{afterOf}
+use Rattle.conjunction.specs.Orders.{afterOf}
 use Rattle.conjunction.proofs.Searches.{odd-above, after-up, after-here}
 use Rattle.conjunction.proofs.common.after.Statement.{statement}
 use Rattle.conjunction.proofs.common.after.Tie as tie

@@ -1,7 +1,7 @@
 use borrow.Author.Needs.{needs}
 use Prim.Native.Nat.{_+_, _-_, _*_}
 use native.Mathlib.Omega.{arith}
-use Rattle.conjunction.specs.Paths.{countAt}
+use Rattle.paths.specs.Paths.{countAt}
 use Rattle.conjunction.proofs.Counting.{Counting, counting-start, counting-next, counting-none, counting-end}
 use Rattle.conjunction.proofs.common.common_count.Statement.{statement}
 use Rattle.conjunction.proofs.common.common_count.Tie as tie

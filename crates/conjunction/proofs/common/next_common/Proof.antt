@@ -5,7 +5,7 @@ use mathlib.Core.Path.{_≡_, sym, _∙_}
 use lib.ListN.{length, take}
 use Rattle.model.specs.Opening.{contents}
 use Rattle.model.specs.Queries.{countsUnder}
-use Rattle.conjunction.specs.Paths.{termSpan}
+use Rattle.paths.specs.Paths.{termSpan}
 use Rattle.wavelet.proofs.Descents.{bits-lt, bits-le}
 use Rattle.wavelet.proofs.Ranges.{node-few}
 use Rattle.archive.proofs.Opened.{stored}

@@ -6,8 +6,9 @@ use borrow.Author.Needs.{needs}
 use Rattle.model.specs.Opening.{contents}
 use Rattle.model.specs.Queries.{countsUnder}
 use Rattle.archive.proofs.Opened.{fitting, documents-are, documents-fit}
-use Rattle.conjunction.specs.Conjunction.{nextCommon, nextIs, nextOf, termsOf}
-use Rattle.conjunction.specs.Paths.{termSpan, Ready, HeldAt}
+use Rattle.paths.specs.Paths.{termsOf, termSpan}
+use Rattle.conjunction.specs.Conjunction.{nextCommon, nextIs, nextOf}
+use Rattle.conjunction.specs.Orders.{Ready, HeldAt}
 use Rattle.conjunction.proofs.Walks.{Walking, walking-start, walking-size, walking-few, walking-next, walking-end, turn, Turn, walk-less, at-fits, found-fits, pair-room}
 use Rattle.conjunction.proofs.conjunctions.conjunction_in.Statement.{statement}
 use Rattle.conjunction.proofs.conjunctions.conjunction_in.Tie as tie
@@ -30,7 +31,7 @@ loop-holds : tie.Need-loop-holds Inv-loop μ-loop
 loop-holds c =
     let g = c .before .before .before .before .before .args in (
       walking-start (contents (g .archive .now)) (g .l .levels .height) (termsOf (g .q)) (g .answers .now),
-      c .before .put-root .ensures,
+      (λ k m alive. c .before .put-root .ensures k m),
       c .before .put-root .kept .1 .1 .1 .0,
     )
 

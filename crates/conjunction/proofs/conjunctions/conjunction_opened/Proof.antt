@@ -8,7 +8,7 @@ use Rattle.model.specs.Lists.{any}
 use Rattle.model.specs.Opening.{contents}
 use Rattle.archive.proofs.Opened.{fitting, documents-are}
 use Rattle.conjunction.proofs.Refusals.{terms-none, terms-many, terms-missing, terms-short, terms-answered}
-use Rattle.conjunction.proofs.Missing.{all-known}
+use Rattle.paths.proofs.Missing.{all-known}
 use Rattle.conjunction.proofs.Walks.{found-le}
 use Rattle.conjunction.proofs.conjunctions.conjunction_opened.Statement.{statement}
 use Rattle.conjunction.proofs.conjunctions.conjunction_opened.Tie as tie

@@ -2,7 +2,7 @@ use borrow.Author.Needs.{needs}
 use mathlib.Core.Path.{_∙_}
 use mathlib.Core.List.{[], _∷_}
 use Rattle.ffi.proofs.Leaving.{pairs-left}
-use Rattle.ffi.proofs.Chosen.{chosen-asked}
+use Rattle.ffi.proofs.Chosen.{conjunction-chosen}
 use Rattle.masuvelior.proofs.conjunctions.masuvelior_opened_conjunction.Statement.{statement}
 use Rattle.masuvelior.proofs.conjunctions.masuvelior_opened_conjunction.Tie as tie
 
@@ -25,7 +25,7 @@ returns : tie.Need-returns
 returns c =
     let g = c .before .before .before .before .before .before .before .before .before .before .before .args in
     let q = c .before .before .before .before .before .before .terms-of in
-    pairs-left (g .listed .now ∷ []) (c .number .ensures) (c .before .before .before .before .conjunction-opened .ensures ∙ chosen-asked (g .archive .now) (g .answers .now) (g .chosen .now) (q .result) (q .ensures))
+    pairs-left (g .listed .now ∷ []) (c .number .ensures) (c .before .before .before .before .conjunction-opened .ensures ∙ conjunction-chosen (g .archive .now) (g .answers .now) (g .chosen .now) (q .result) (q .ensures))
 
 pub masuvelior-opened-conjunction-spec : {M : Type 1} → statement M
 masuvelior-opened-conjunction-spec = tie.close (tie.spec layout-in-requires terms-of-requires conjunction-opened-requires number-requires same-length returns)

@@ -1,4 +1,4 @@
-// The path of a search for common documents: where the ranges of the terms lie in the two halves of every level, from the root down to the
+// The path of a search with several terms: where the ranges of the terms lie in the two halves of every level, from the root down to the
 // node that is searched. It is pairs in a slice, a frame for each half: the bounds of its node, and the two places of each term.
 use crate::Terms;
 use answers::put_pair;
@@ -16,13 +16,12 @@ ghost use lib.Dec.{ltb};
 ghost use Rattle.wavelet.specs.Levels.{Stored, levelOf};
 ghost use Rattle.wavelet.specs.Spans.{Ordered, rankedOf};
 ghost use Rattle.archive.specs.Layout.{Opened};
-ghost use Rattle.conjunction.specs.Conjunction.{Asked};
-ghost use Rattle.conjunction.specs.Paths.{frameOf, pairIn, halvesIn, putHalves, sidesOf, termSpan, Whole, Held};
+ghost use Rattle.paths.specs.Paths.{Asked, frameOf, pairIn, halvesIn, putHalves, sidesOf, termSpan, Whole, Held};
 
 // How many entries a term has in each half of a node.
-struct Sides {
-    low: usize,
-    high: usize,
+pub struct Sides {
+    pub low: usize,
+    pub high: usize,
 }
 
 // The frame of a node, as a number of pairs.
@@ -37,7 +36,7 @@ pub fn frame_of(level: usize, number: usize) -> usize
 pub fn put_root(archive: &[u8], l: Layout, q: Terms, path: &mut [u32])
     requires { ⌜ Opened (now archive) l ⌝ }
     requires { ⌜ Asked (l .terms) q × (length (now path) ≡ 468) ⌝ }
-    ensures { λ _. ⌜ Held (termSpan (now (archive .entry)) l q) (q .size) (now (path .exit)) 0 0 ⌝ }
+    ensures { λ _. ⌜ Whole (termSpan (now (archive .entry)) l q) (q .size) (now (path .exit)) 0 0 ⌝ }
 {
     put_pair(path, 0, 0, l.levels.entries);
     let size = q.size as usize;
@@ -52,7 +51,7 @@ pub fn put_root(archive: &[u8], l: Layout, q: Terms, path: &mut [u32])
 }
 
 // The range of one term, pair `from` of the node's frame, in both halves: pair `to` of the low one's frame and the same of the high one's.
-fn part_term(
+pub fn part_term(
     bytes: &[u8],
     t: Levels,
     level: usize,
@@ -80,7 +79,7 @@ fn part_term(
     }
 }
 
-fn least(x: usize, y: usize) -> usize
+pub fn least(x: usize, y: usize) -> usize
     ensures { λ r. ⌜ r ≡ min x y ⌝ }
 {
     if x < y { x } else { y }

@@ -11,10 +11,10 @@ use Rattle.wavelet.specs.Levels.{levelOf}
 use Rattle.wavelet.specs.Spans.{Ordered, halvesOf, rankedOf, spanIn}
 use Rattle.archive.specs.declared.Layout.{Layout}
 use Rattle.archive.specs.Layout.{Opened}
-use Rattle.conjunction.specs.declared.Terms.{Terms}
-use Rattle.conjunction.specs.Conjunction.{Asked}
-use Rattle.conjunction.specs.Paths.{frameOf, rangeIn, termSpan, Whole}
-use Rattle.conjunction.proofs.TermSpans.{span-order, span-two}
+use Rattle.paths.specs.declared.Terms.{Terms}
+use Rattle.paths.specs.Paths.{Asked}
+use Rattle.paths.specs.Paths.{frameOf, rangeIn, termSpan, Whole}
+use Rattle.paths.proofs.TermSpans.{span-order, span-two}
 
 module _ (bytes : List ℕ) (l : Layout) (o : Opened bytes l) (q : Terms) (a : Asked (l .terms) q) (eight : length (q .numbers) ≡ 8) (j number : ℕ) where
   abbrev span : ℕ → ℕ → ℕ → Span
@@ -27,8 +27,32 @@ module _ (bytes : List ℕ) (l : Layout) (o : Opened bytes l) (q : Terms) (a : A
   abbrev pub Known : Ranked → Type 0
   Known node = node ≡ rankedOf bits (span j number 0 .start) (span j number 0 .end)
 
+  -- by the bounds in its frame
+  module _ (path : List ℕ) (frame : ℕ) (s : getD path (2 * frame) 0 ≡ span j number 0 .start) (e : getD path (2 * frame + 1) 0 ≡ span j number 0 .end) where
+    pub bounded-order : (getD path (2 * frame) 0 ≤ getD path (2 * frame + 1) 0) × (getD path (2 * frame + 1) 0 ≤ l .levels .entries)
+    bounded-order =
+        let r = span-order bytes l o q a eight j number 0 (a .some) in
+        (omega (arith, r .from, r .range, r .to), omega (arith, r .inside))
+
+    pub bounded-known : (node : Ranked) → node ≡ rankedOf bits (getD path (2 * frame) 0) (getD path (2 * frame + 1) 0) → Known node
+    bounded-known node g = g ∙ (λ i. rankedOf bits (s i) (e i))
+
+  -- a term's range, as it stands in the frame
+  module _ (path : List ℕ) (frame k : ℕ) (m : k < q .size) (r : rangeIn path frame k ≡ span j number k) (node : Ranked) (e : Known node) where
+    range-is : spanIn node (getD path (2 * (frame + 1 + k)) 0) (getD path (2 * (frame + 1 + k) + 1) 0) ≡ span j number k
+    range-is = λ i. record {
+      start = ap (λ (r : Ranked). r .start) e i;
+      lo = ap (λ (s : Span). s .lo) r i;
+      hi = ap (λ (s : Span). s .hi) r i;
+      end = ap (λ (r : Ranked). r .end) e i;
+    }
+
+    pub range-ordered : Ordered (l .levels .entries) (spanIn node (getD path (2 * (frame + 1 + k)) 0) (getD path (2 * (frame + 1 + k) + 1) 0))
+    range-ordered = subst (Ordered (l .levels .entries)) (sym range-is) (span-order bytes l o q a eight j number k m)
+
+  -- where the frame has all of them
   module _ (path : List ℕ) (frame : ℕ) (f : frame ≡ frameOf j number) (w : Whole span (q .size) path j number) where
-    pub whole-at : (k : ℕ) → k < q .size → rangeIn path frame k ≡ span j number k
+    whole-at : (k : ℕ) → k < q .size → rangeIn path frame k ≡ span j number k
     whole-at k m = subst (λ (x : ℕ). rangeIn path x k ≡ span j number k) (sym f) (w k m)
 
     start-is : getD path (2 * frame) 0 ≡ span j number 0 .start
@@ -38,32 +62,19 @@ module _ (bytes : List ℕ) (l : Layout) (o : Opened bytes l) (q : Terms) (a : A
     end-is = ap (λ (s : Span). s .end) (whole-at 0 (a .some))
 
     pub bounds-order : (getD path (2 * frame) 0 ≤ getD path (2 * frame + 1) 0) × (getD path (2 * frame + 1) 0 ≤ l .levels .entries)
-    bounds-order =
-        let s = start-is in
-        let e = end-is in
-        let r = span-order bytes l o q a eight j number 0 (a .some) in
-        (omega (arith, r .from, r .range, r .to), omega (arith, r .inside))
+    bounds-order = bounded-order path frame start-is end-is
 
     pub known-is : (node : Ranked) → node ≡ rankedOf bits (getD path (2 * frame) 0) (getD path (2 * frame + 1) 0) → Known node
-    known-is node e = e ∙ (λ i. rankedOf bits (start-is i) (end-is i))
+    known-is = bounded-known path frame start-is end-is
 
-    -- a term's range, as it stands in the frame
     module _ (node : Ranked) (e : Known node) (k : ℕ) (m : k < q .size) where
-      pub span-is : spanIn node (getD path (2 * (frame + 1 + k)) 0) (getD path (2 * (frame + 1 + k) + 1) 0) ≡ span j number k
-      span-is = λ i. record {
-        start = ap (λ (r : Ranked). r .start) e i;
-        lo = ap (λ (s : Span). s .lo) (whole-at k m) i;
-        hi = ap (λ (s : Span). s .hi) (whole-at k m) i;
-        end = ap (λ (r : Ranked). r .end) e i;
-      }
-
       pub span-ordered-is : Ordered (l .levels .entries) (spanIn node (getD path (2 * (frame + 1 + k)) 0) (getD path (2 * (frame + 1 + k) + 1) 0))
-      span-ordered-is = subst (Ordered (l .levels .entries)) (sym span-is) (span-order bytes l o q a eight j number k m)
+      span-ordered-is = range-ordered path frame k m (whole-at k m) node e
 
       pub span-halves-are : j < l .levels .height → number < 2 ^ j
           → halvesOf bits (spanIn node (getD path (2 * (frame + 1 + k)) 0) (getD path (2 * (frame + 1 + k) + 1) 0))
           ≡ record { low = span (suc j) (2 * number) k; high = span (suc j) (2 * number + 1) k }
-      span-halves-are d n = ap (halvesOf bits) span-is ∙ span-two bytes l o q a eight j number k d n
+      span-halves-are d n = ap (halvesOf bits) (range-is path frame k m (whole-at k m) node e) ∙ span-two bytes l o q a eight j number k d n
 
   -- the bounds of its halves
   module _ (node : Ranked) (e : Known node) where

@@ -9,8 +9,8 @@ use lib.ListN.{length, getD}
 use lib.Seq.{sets, length-sets}
 use Rattle.bits.proofs.Tests.{le-or-lt}
 use Rattle.wavelet.specs.declared.Span.{Span}
-use Rattle.conjunction.specs.Paths.{rangeIn, Held}
-use Rattle.conjunction.proofs.Paths.{pair-first, pair-second, pair-other}
+use Rattle.paths.specs.Paths.{rangeIn, Whole}
+use Rattle.paths.proofs.Frames.{pair-first, pair-second, pair-other}
 
 -- the first k of the ranges are there
 pub record Rooting (span : ℕ → ℕ → ℕ → Span) (size n : ℕ) (path : List ℕ) (k : ℕ) : Type 0 where
@@ -66,5 +66,5 @@ module _ (span : ℕ → ℕ → ℕ → Span) (size n : ℕ) (few : size ≤ 8)
               end = kept 1 (omega arith) t;
             }) ∙ o .filled i x
 
-    pub rooting-end : size ≤ k → Held span size path 0 0
-    rooting-end l = λ i m alive. o .filled i (omega arith)
+    pub rooting-end : size ≤ k → Whole span size path 0 0
+    rooting-end l = λ i m. o .filled i (omega arith)

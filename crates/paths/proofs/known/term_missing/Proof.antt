@@ -8,9 +8,9 @@ use lib.Seq.{length-take-le, getD-take}
 use lib.Dec.{leb}
 use borrow.Author.Tests.{le-leb, lt-leb}
 use Rattle.model.specs.Lists.{any}
-use Rattle.conjunction.proofs.Missing.{any-next, any-found, any-end}
-use Rattle.conjunction.proofs.conjunctions.term_missing.Statement.{statement}
-use Rattle.conjunction.proofs.conjunctions.term_missing.Tie as tie
+use Rattle.paths.proofs.Missing.{any-next, any-found, any-end}
+use Rattle.paths.proofs.known.term_missing.Statement.{statement}
+use Rattle.paths.proofs.known.term_missing.Tie as tie
 
 abbrev Inv-loop : tie.InvT-loop
 Inv-loop l q size i₀ i = any (leb (l .terms)) (drop i (take (q .size) (q .numbers))) ≡ any (leb (l .terms)) (take (q .size) (q .numbers))

@@ -12,8 +12,8 @@ use borrow.Author.Tests.{ltb-true, ltb-false}
 use Rattle.bits.proofs.Tests.{le-or-lt, and-both, and-cases, or-neither}
 use Rattle.wavelet.specs.declared.Span.{Span}
 use Rattle.wavelet.specs.declared.Halves.{Halves}
-use Rattle.conjunction.specs.Paths.{frameOf, rangeIn, putHalves, Whole, Right, Held}
-use Rattle.conjunction.proofs.Paths.{length-put, put-low, put-high, put-below, put-between, whole-kept, held-kept, held-by}
+use Rattle.paths.specs.Paths.{frameOf, rangeIn, putHalves, Whole, Right, Held, HeldWhole}
+use Rattle.paths.proofs.Frames.{length-put, put-low, put-high, put-below, put-between, Front, whole-kept, right-kept, held-kept, held-by}
 
 -- one of the first k terms has no entry in a node
 pub record Dead (span : ℕ → ℕ → ℕ → Span) (j q k : ℕ) : Type 0 where
@@ -22,9 +22,8 @@ pub record Dead (span : ℕ → ℕ → ℕ → Span) (j q k : ℕ) : Type 0 whe
   pub none : span j q which .hi ≤ span j q which .lo
 
 -- the ranges of k terms are in the frames of both halves
-pub record Opening (span : ℕ → ℕ → ℕ → Span) (size j q : ℕ) (path : List ℕ) (low high k : ℕ) : Type 0 where
+pub record Filling (span : ℕ → ℕ → ℕ → Span) (size j q : ℕ) (path : List ℕ) (k : ℕ) : Type 0 where
   pub room : length path ≡ 468
-  pub held : Held span size path j q
   pub whole : Whole span size path j q
   pub inside : k ≤ size
   pub low-bounds : (i : ℕ) → (getD path (2 * (18 * (j + 1))) 0 ≡ span (suc j) (2 * q) i .start) × (getD path (2 * (18 * (j + 1)) + 1) 0 ≡ span (suc j) (2 * q) i .end)
@@ -32,6 +31,11 @@ pub record Opening (span : ℕ → ℕ → ℕ → Span) (size j q : ℕ) (path 
       → (getD path (2 * (18 * (j + 1) + 9)) 0 ≡ span (suc j) (2 * q + 1) i .start) × (getD path (2 * (18 * (j + 1) + 9) + 1) 0 ≡ span (suc j) (2 * q + 1) i .end)
   pub low-filled : (i : ℕ) → i < k → rangeIn path (18 * (j + 1)) i ≡ span (suc j) (2 * q) i
   pub high-filled : (i : ℕ) → i < k → rangeIn path (18 * (j + 1) + 9) i ≡ span (suc j) (2 * q + 1) i
+
+-- a half of least count 0 is dead
+pub record Opening (span : ℕ → ℕ → ℕ → Span) (size j q : ℕ) (path : List ℕ) (low high k : ℕ) : Type 0 where
+  pub filling : Filling span size j q path k
+  pub held : Held span size path j q
   pub low-dead : low ≡ 0 → Dead span (suc j) (2 * q) k
   pub high-dead : high ≡ 0 → Dead span (suc j) (2 * q + 1) k
 
@@ -52,28 +56,31 @@ goes-stop k size low high e = go (and-cases (ltb k size) (ltb 0 low || ltb 0 hig
 
 module _ (span : ℕ → ℕ → ℕ → Span) (size j q : ℕ) (few : size ≤ 8) (deep : j < 12) where
   -- the bounds of both halves are written
-  pub opening-start : (path : List ℕ) (two : Halves) → length path ≡ 468 → Held span size path j q → Whole span size path j q
-      → ((i : ℕ) → (two .low .lo ≡ span (suc j) (2 * q) i .start) × (two .low .hi ≡ span (suc j) (2 * q) i .end))
-      → ((i : ℕ) → (two .high .lo ≡ span (suc j) (2 * q + 1) i .start) × (two .high .hi ≡ span (suc j) (2 * q + 1) i .end))
-      → Opening span size j q (putHalves two (18 * (j + 1)) path) 1 1 0
-  opening-start path two n h w lb hb =
-      let r : 2 * (18 * (j + 1) + 9) + 1 < length path = omega arith in
-      let low = put-low two (18 * (j + 1)) path r in
-      let high = put-high two (18 * (j + 1)) path r in
-      record {
-        room = length-put two (18 * (j + 1)) path r ∙ n;
-        held = held-kept span size few path (putHalves two (18 * (j + 1)) path) j q (λ i m. put-below two (18 * (j + 1)) path r i (omega arith)) h;
-        whole = whole-kept span size few path (putHalves two (18 * (j + 1)) path) j q (λ i m. put-below two (18 * (j + 1)) path r i (omega arith)) w;
-        inside = omega arith;
-        low-bounds = λ i. (low .0 ∙ lb i .0, low .1 ∙ lb i .1);
-        high-bounds = λ i. (high .0 ∙ hb i .0, high .1 ∙ hb i .1);
-        low-filled = λ i m. absurd (omega arith);
-        high-filled = λ i m. absurd (omega arith);
-        low-dead = λ e. absurd (omega arith);
-        high-dead = λ e. absurd (omega arith);
-      }
+  module _ (path : List ℕ) (two : Halves) (n : length path ≡ 468) where
+    bounds-fit : 2 * (18 * (j + 1) + 9) + 1 < length path
+    bounds-fit = omega arith
 
-  module _ {path : List ℕ} {low high k : ℕ} (o : Opening span size j q path low high k) where
+    pub filling-front : Front j path (putHalves two (18 * (j + 1)) path)
+    filling-front = λ i m. put-below two (18 * (j + 1)) path bounds-fit i (omega arith)
+
+    pub filling-start : Whole span size path j q
+        → ((i : ℕ) → (two .low .lo ≡ span (suc j) (2 * q) i .start) × (two .low .hi ≡ span (suc j) (2 * q) i .end))
+        → ((i : ℕ) → (two .high .lo ≡ span (suc j) (2 * q + 1) i .start) × (two .high .hi ≡ span (suc j) (2 * q + 1) i .end))
+        → Filling span size j q (putHalves two (18 * (j + 1)) path) 0
+    filling-start w lb hb =
+        let low = put-low two (18 * (j + 1)) path bounds-fit in
+        let high = put-high two (18 * (j + 1)) path bounds-fit in
+        record {
+          room = length-put two (18 * (j + 1)) path bounds-fit ∙ n;
+          whole = whole-kept span size few path (putHalves two (18 * (j + 1)) path) j q filling-front w;
+          inside = omega arith;
+          low-bounds = λ i. (low .0 ∙ lb i .0, low .1 ∙ lb i .1);
+          high-bounds = λ i. (high .0 ∙ hb i .0, high .1 ∙ hb i .1);
+          low-filled = λ i m. absurd (omega arith);
+          high-filled = λ i m. absurd (omega arith);
+        }
+
+  module _ {path : List ℕ} {k : ℕ} (o : Filling span size j q path k) where
     -- one term more
     module _ (l : k < size) (two : Halves) (e : two ≡ record { low = span (suc j) (2 * q) k; high = span (suc j) (2 * q + 1) k }) where
       abbrev after : List ℕ
@@ -134,20 +141,14 @@ module _ (span : ℕ → ℕ → ℕ → Span) (size j q : ℕ) (few : size ≤ 
                 end = between (2 * (18 * (j + 1) + 9) + 1) (omega arith) (omega arith) t;
               }) ∙ o .high-filled i n
 
-      -- where the least count is 0, it was before or is now
-      dead-next : (n c number : ℕ) → (n ≡ 0 → Dead span (suc j) number k) → c ≡ span (suc j) number k .hi - span (suc j) number k .lo → min n c ≡ 0 → Dead span (suc j) number (suc k)
-      dead-next n c number f e z = go (le-or-lt 1 n)
-        where
-          go : (1 ≤ n) ⊎ (n < 1) → Dead span (suc j) number (suc k)
-          go (inl m) = record { which = k; lt = omega arith; none = omega arith }
-          go (inr m) = let d = f (omega arith) in record { which = d .which; lt = let b = d .lt in omega arith; none = d .none }
+      pub filling-next-front : Front j path after
+      filling-next-front = λ i m. before i (omega arith)
 
-      pub opening-next : (a b : ℕ) → a ≡ two .low .hi - two .low .lo → b ≡ two .high .hi - two .high .lo → Opening span size j q after (min low a) (min high b) (k + 1)
-      opening-next a b ea eb =
-          subst (Opening span size j q after (min low a) (min high b)) (sym (add-one k)) (record {
+      pub filling-next : Filling span size j q after (k + 1)
+      filling-next =
+          subst (Filling span size j q after) (sym (add-one k)) (record {
             room = length-put two (18 * (j + 1) + 1 + k) path fits ∙ o .room;
-            held = held-kept span size few path after j q (λ i m. before i (omega arith)) (o .held);
-            whole = whole-kept span size few path after j q (λ i m. before i (omega arith)) (o .whole);
+            whole = whole-kept span size few path after j q filling-next-front (o .whole);
             inside = l;
             low-bounds = λ i. (before (2 * (18 * (j + 1))) (omega arith) ∙ o .low-bounds i .0, before (2 * (18 * (j + 1)) + 1) (omega arith) ∙ o .low-bounds i .1);
             high-bounds =
@@ -157,9 +158,54 @@ module _ (span : ℕ → ℕ → ℕ → Span) (size j q : ℕ) (few : size ≤ 
                 );
             low-filled = low-next;
             high-filled = high-next;
-            low-dead = dead-next low a (2 * q) (o .low-dead) (ea ∙ ap (λ (h : Halves). h .low .hi - h .low .lo) e);
-            high-dead = dead-next high b (2 * q + 1) (o .high-dead) (eb ∙ ap (λ (h : Halves). h .high .hi - h .high .lo) e);
           })
+
+    -- no term is left
+    pub filling-end : size ≤ k → HeldWhole span size path j q → HeldWhole span size path (j + 1) (2 * q)
+    filling-end l h =
+        let half : q ≡ 2 * q / 2 = omega arith in
+        let low : 18 * (j + 1) ≡ frameOf (suc j) (2 * q) = omega arith in
+        let high : 18 * (j + 1) + 9 ≡ frameOf (suc j) (2 * q + 1) = omega arith in
+        rw add-one
+        (held-by (Whole span size) path j q (2 * q) half
+        (λ i m. ap (λ (x : ℕ). rangeIn path x i) (sym low) ∙ o .low-filled i (omega arith))
+        (λ i m. ap (λ (x : ℕ). rangeIn path x i) (sym high) ∙ o .high-filled i (omega arith)) h)
+
+  -- ---- where dead halves are left alone
+
+  pub opening-start : (path : List ℕ) (two : Halves) → length path ≡ 468 → Held span size path j q → Whole span size path j q
+      → ((i : ℕ) → (two .low .lo ≡ span (suc j) (2 * q) i .start) × (two .low .hi ≡ span (suc j) (2 * q) i .end))
+      → ((i : ℕ) → (two .high .lo ≡ span (suc j) (2 * q + 1) i .start) × (two .high .hi ≡ span (suc j) (2 * q + 1) i .end))
+      → Opening span size j q (putHalves two (18 * (j + 1)) path) 1 1 0
+  opening-start path two n h w lb hb = record {
+    filling = filling-start path two n w lb hb;
+    held = held-kept (Right span size) path (putHalves two (18 * (j + 1)) path) (right-kept span size few path (putHalves two (18 * (j + 1)) path)) j q (filling-front path two n) h;
+    low-dead = λ e. absurd (omega arith);
+    high-dead = λ e. absurd (omega arith);
+  }
+
+  module _ {path : List ℕ} {low high k : ℕ} (o : Opening span size j q path low high k) where
+    module _ (l : k < size) (two : Halves) (e : two ≡ record { low = span (suc j) (2 * q) k; high = span (suc j) (2 * q + 1) k }) where
+      abbrev put : List ℕ
+      put = putHalves two (18 * (j + 1) + 1 + k) path
+
+      -- where the least count is 0, it was before or is now
+      dead-next : (n c number : ℕ) → (n ≡ 0 → Dead span (suc j) number k) → c ≡ span (suc j) number k .hi - span (suc j) number k .lo → min n c ≡ 0 → Dead span (suc j) number (suc k)
+      dead-next n c number f e z = go (le-or-lt 1 n)
+        where
+          go : (1 ≤ n) ⊎ (n < 1) → Dead span (suc j) number (suc k)
+          go (inl m) = record { which = k; lt = omega arith; none = omega arith }
+          go (inr m) = let d = f (omega arith) in record { which = d .which; lt = let b = d .lt in omega arith; none = d .none }
+
+      pub opening-next : (a b : ℕ) → a ≡ two .low .hi - two .low .lo → b ≡ two .high .hi - two .high .lo → Opening span size j q put (min low a) (min high b) (k + 1)
+      opening-next a b ea eb =
+          let n : suc k ≡ k + 1 = sym (add-one k) in
+          record {
+            filling = filling-next (o .filling) l two e;
+            held = held-kept (Right span size) path put (right-kept span size few path put) j q (filling-next-front (o .filling) l two e) (o .held);
+            low-dead = λ z. subst (Dead span (suc j) (2 * q)) n (dead-next low a (2 * q) (o .low-dead) (ea ∙ ap (λ (h : Halves). h .low .hi - h .low .lo) e) z);
+            high-dead = λ z. subst (Dead span (suc j) (2 * q + 1)) n (dead-next high b (2 * q + 1) (o .high-dead) (eb ∙ ap (λ (h : Halves). h .high .hi - h .high .lo) e) z);
+          }
 
     -- no term is left, or one has no entry in the low half and one has none in the high half
     module _ (t : (size ≤ k) ⊎ ((low ≡ 0) × (high ≡ 0))) where
@@ -177,7 +223,7 @@ module _ (span : ℕ → ℕ → ℕ → Span) (size j q : ℕ) (few : size ≤ 
       opening-end =
           let half : q ≡ 2 * q / 2 = omega arith in
           rw add-one
-          (held-by span size path j q (2 * q) half
-          (half-right (18 * (j + 1)) (2 * q) low (omega arith) (o .low-dead) (elim t [ inl a ↦ inl a | inr a ↦ inr (a .0) ]) (o .low-filled))
-          (half-right (18 * (j + 1) + 9) (2 * q + 1) high (omega arith) (o .high-dead) (elim t [ inl a ↦ inl a | inr a ↦ inr (a .1) ]) (o .high-filled))
+          (held-by (Right span size) path j q (2 * q) half
+          (half-right (18 * (j + 1)) (2 * q) low (omega arith) (o .low-dead) (elim t [ inl a ↦ inl a | inr a ↦ inr (a .0) ]) (o .filling .low-filled))
+          (half-right (18 * (j + 1) + 9) (2 * q + 1) high (omega arith) (o .high-dead) (elim t [ inl a ↦ inl a | inr a ↦ inr (a .1) ]) (o .filling .high-filled))
           (o .held))
