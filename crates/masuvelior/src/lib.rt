@@ -5,3 +5,4 @@ mod conjunctions;
 mod entries;
 mod ranges;
 mod searches;
+mod weighted_searches;
