@@ -82,7 +82,7 @@ fn write_and_ask(
 
 // The kind of question number i: of a number more often than of pairs.
 fn kind_of(i: u32) -> u32 {
-    let k = i % 30;
+    let k = i % 33;
     if k < 14 {
         return 3 + k % 7;
     }
@@ -92,7 +92,10 @@ fn kind_of(i: u32) -> u32 {
     if k < 22 {
         return 12;
     }
-    13 + k % 4
+    if k < 30 {
+        return 13 + k % 4;
+    }
+    17
 }
 
 fn ask_one(

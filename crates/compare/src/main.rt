@@ -10,7 +10,7 @@ use trials::random::draw;
 
 fn libraries(made: &mut [u32; 64]) {
     let mut i: u32 = 0;
-    while i < 3104 {
+    while i < 3105 {
         let seed = draw(2026, i);
         library(shape_of(i, seed), seed, made);
         i += 1;

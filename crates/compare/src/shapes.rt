@@ -52,6 +52,7 @@ fn documents(seed: u32) -> u32 {
         6 => 4096,
         7 => up(1, below(draw(seed, 2), 13)),
         8 => plus(below(draw(seed, 3), 400), 1),
+        9 => plus(below(draw(seed, 5), 4096), 1),
         _ => plus(below(draw(seed, 4), 40), 1),
     }
 }
@@ -89,6 +90,18 @@ fn middle(i: u32) -> u32 {
     }
 }
 
+// All entries of the one term in one document of 4,096: no term can weigh more, and no score be larger.
+fn heaviest() -> Shape {
+    Shape {
+        n: 65535,
+        documents: 4096,
+        terms: 1,
+        entries: 2,
+        lengths: 2,
+        questions: 132,
+    }
+}
+
 // As large as they may be.
 fn largest(i: u32) -> Shape {
     Shape {
@@ -97,17 +110,20 @@ fn largest(i: u32) -> Shape {
         terms: 4096,
         entries: i % 4,
         lengths: i / 2 % 2,
-        questions: 120,
+        questions: 132,
     }
 }
 
-// The shape of library i: 3,000 small ones, 100 middle ones, then the largest.
+// The shape of library i: 3,000 small ones, 100 middle ones, the four largest, then the heaviest.
 pub fn shape_of(i: u32, seed: u32) -> Shape {
     if i < 3000 {
-        return of_size(size(draw(seed, 5)), 75, seed);
+        return of_size(size(draw(seed, 5)), 82, seed);
     }
     if i < 3100 {
-        return of_size(middle(i), 120, seed);
+        return of_size(middle(i), 132, seed);
     }
-    largest(i)
+    if i < 3104 {
+        return largest(i);
+    }
+    heaviest()
 }

@@ -5,3 +5,4 @@ pub mod numbers;
 pub mod outcome;
 pub mod pairs;
 pub mod search;
+pub mod weighted;

@@ -34,11 +34,12 @@ fn name(kind: u32) {
         13 => text(b"greedy of entries"),
         14 => text(b"greedy of terms"),
         15 => text(b"probing of entries"),
-        _ => text(b"probing of terms"),
+        16 => text(b"probing of terms"),
+        _ => text(b"weighted"),
     }
 }
 
-const KINDS: u32 = 17;
+const KINDS: u32 = 18;
 
 // A refusal's slot is its number and this.
 const REFUSALS: u32 = 20;

@@ -7,7 +7,7 @@ use crate::random::near;
 use crate::random::once_in;
 use crate::random::room;
 use crate::random::two_ends;
-use conjunction::Terms;
+use paths::Terms;
 use plain::outcome::Outcome;
 use plain::outcome::Question;
 use plain::outcome::Sizes;
@@ -103,7 +103,8 @@ fn drawn_size(few: u32, seed: u32) -> u32 {
     few
 }
 
-fn drawn_terms(l: Sizes, seed: u32) -> Terms {
+// Repeated terms are frequent where they are drawn from the first few, terms without entries where W is large.
+pub fn drawn_terms(l: Sizes, seed: u32) -> Terms {
     let few = plus(below(seed, 8), 1);
     let most = if once_in(draw(seed, 1), 2) {
         l.terms

@@ -1,10 +1,14 @@
-// Top-k questions: the greedy search and probing, over entries and over terms.
+// Top-k questions: the greedy search and probing, over entries and over terms, and the weighted search of one to eight terms.
 use crate::differences::compare;
+use crate::lists::drawn_terms;
+use crate::random::Ends;
 use crate::random::below;
 use crate::random::draw;
 use crate::random::near;
 use crate::random::room;
 use crate::random::two_ends;
+use moves::TopK;
+use paths::Terms;
 use plain::outcome::DONE;
 use plain::outcome::Outcome;
 use plain::outcome::Question;
@@ -19,7 +23,6 @@ use slices::least;
 use slices::minus;
 use slices::up;
 use top_k::Probed;
-use top_k::TopK;
 
 fn ended(found: TopK) -> Outcome {
     match found {
@@ -36,18 +39,25 @@ fn probed(found: Probed) -> Outcome {
     }
 }
 
-fn search(archive: &[u8], q: Question, answers: &mut [u32], work: &mut [u32]) -> Outcome {
+fn search(archive: &[u8], q: Question, t: Terms, answers: &mut [u32], work: &mut [u32]) -> Outcome {
     let kind = q.kind;
     match kind {
         13 => ended(top_k::greedy_entries(archive, q.a, q.b, q.c, q.d, answers, work)),
         14 => ended(top_k::greedy_terms(archive, q.a, q.b, q.c, q.d, answers, work)),
         15 => probed(top_k::probing_entries(archive, q.a, q.b, q.c, answers, work)),
-        _ => probed(top_k::probing_terms(archive, q.a, q.b, q.c, answers, work)),
+        16 => probed(top_k::probing_terms(archive, q.a, q.b, q.c, answers, work)),
+        _ => ended(weighted::weighted(archive, t, q.c, q.d, answers, work)),
     }
 }
 
 // Searches with the first so many numbers of either slice lent.
-fn search_into(archive: &[u8], q: Question, answers: &mut [u32], work: &mut [u32]) -> Outcome {
+fn search_into(
+    archive: &[u8],
+    q: Question,
+    t: Terms,
+    answers: &mut [u32],
+    work: &mut [u32],
+) -> Outcome {
     let from = 0;
     let m = q.answers as usize;
     let w = q.work as usize;
@@ -57,7 +67,24 @@ fn search_into(archive: &[u8], q: Question, answers: &mut [u32], work: &mut [u32
     if work.len() < w {
         return refused(0);
     }
-    search(archive, q, &mut answers[from..m], &mut work[from..w])
+    search(archive, q, t, &mut answers[from..m], &mut work[from..w])
+}
+
+// The same over the list.
+fn plain_search(
+    entries: &[u32],
+    lengths: &[u32],
+    l: Sizes,
+    q: Question,
+    t: Terms,
+    answers: &mut [u32],
+    work: &mut [u32],
+) -> Outcome {
+    if q.kind < 17 {
+        return search::search(entries, lengths, l, q, answers, work);
+    }
+    let numbers = t.numbers;
+    plain::weighted::weighted(entries, lengths, l, &numbers, t.size, q, answers, work)
 }
 
 // No documents, a few, all of them, or as many as 32 bits have.
@@ -69,10 +96,21 @@ fn drawn_k(l: Sizes, seed: u32) -> u32 {
     }
 }
 
-fn drawn(kind: u32, l: Sizes, seed: u32) -> Question {
-    let over_entries = kind % 2 == 1;
-    let most = if over_entries { l.n } else { minus(l.terms, 1) };
-    let e = two_ends(draw(seed, 1), most);
+// The ends of a range of entries or of terms; for the weighted search the first term, and how many there are.
+fn drawn_ends(kind: u32, l: Sizes, t: Terms, seed: u32) -> Ends {
+    let numbers = t.numbers;
+    match kind {
+        13 | 15 => two_ends(seed, l.n),
+        14 | 16 => two_ends(seed, minus(l.terms, 1)),
+        _ => Ends {
+            first: numbers[0],
+            last: t.size,
+        },
+    }
+}
+
+fn drawn(kind: u32, l: Sizes, t: Terms, seed: u32) -> Question {
+    let e = drawn_ends(kind, l, t, draw(seed, 1));
     let k = drawn_k(l, draw(seed, 2));
     Question {
         kind,
@@ -87,6 +125,7 @@ fn drawn(kind: u32, l: Sizes, seed: u32) -> Question {
 
 fn ask(
     q: Question,
+    t: Terms,
     archive: &[u8],
     entries: &[u32],
     lengths: &[u32],
@@ -98,8 +137,8 @@ fn ask(
     let mut plain = [junk; 8200];
     let mut work = [junk; 16400];
     let mut plain_work = [junk; 16400];
-    let found = search_into(archive, q, &mut answers, &mut work);
-    let expected = search::search(entries, lengths, l, q, &mut plain, &mut plain_work);
+    let found = search_into(archive, q, t, &mut answers, &mut work);
+    let expected = plain_search(entries, lengths, l, q, t, &mut plain, &mut plain_work);
     compare(
         q,
         found,
@@ -125,6 +164,7 @@ fn with_allowance(q: Question, allowance: u32) -> Question {
 // The same question with the openings that it needs as the allowance, with one less, and with any fewer.
 fn ask_again(
     q: Question,
+    t: Terms,
     openings: u32,
     archive: &[u8],
     entries: &[u32],
@@ -136,9 +176,9 @@ fn ask_again(
     let exact = with_allowance(q, openings);
     let less = with_allowance(q, minus(openings, 1));
     let fewer = with_allowance(q, below(draw(seed, 4), openings));
-    ask(exact, archive, entries, lengths, l, draw(seed, 1), made);
-    ask(less, archive, entries, lengths, l, draw(seed, 2), made);
-    ask(fewer, archive, entries, lengths, l, draw(seed, 3), made);
+    ask(exact, t, archive, entries, lengths, l, draw(seed, 1), made);
+    ask(less, t, archive, entries, lengths, l, draw(seed, 2), made);
+    ask(fewer, t, archive, entries, lengths, l, draw(seed, 3), made);
 }
 
 pub fn ask_drawn(
@@ -150,9 +190,10 @@ pub fn ask_drawn(
     seed: u32,
     made: &mut [u32; 64],
 ) {
-    let q = drawn(kind, l, draw(seed, 2));
-    let o = ask(q, archive, entries, lengths, l, draw(seed, 1), made);
+    let t = drawn_terms(l, draw(seed, 4));
+    let q = drawn(kind, l, t, draw(seed, 2));
+    let o = ask(q, t, archive, entries, lengths, l, draw(seed, 1), made);
     if o.what == DONE {
-        ask_again(q, o.y, archive, entries, lengths, l, draw(seed, 3), made);
+        ask_again(q, t, o.y, archive, entries, lengths, l, draw(seed, 3), made);
     }
 }

@@ -8,7 +8,7 @@ abbrev Inv-loop : tie.InvT-loop
 Inv-loop made₀ i₀ made i = Unit {0}
 
 abbrev μ-loop : tie.MeasureT-loop
-μ-loop made₀ i₀ made i = 3104 - i
+μ-loop made₀ i₀ made i = 3105 - i
 
 loop-holds : tie.Need-loop-holds Inv-loop μ-loop
 loop-holds c = search needs

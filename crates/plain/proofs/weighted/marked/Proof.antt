@@ -1,0 +1,46 @@
+-- `marked`: the counter moves to its bound.
+use Prim.Native.Nat.{_-_}
+use borrow.Author.Needs.{needs}
+use Rattle.plain.proofs.weighted.marked.Statement.{statement}
+use Rattle.plain.proofs.weighted.marked.Tie as tie
+
+abbrev Inv-loop : tie.InvT-loop
+Inv-loop counts documents df₀ d₀ df d = Unit {0}
+
+abbrev μ-loop : tie.MeasureT-loop
+μ-loop counts documents df₀ d₀ df d = documents - d
+
+loop-holds : tie.Need-loop-holds Inv-loop μ-loop
+loop-holds c = search needs
+
+at-requires : tie.Need-at-requires Inv-loop μ-loop
+at-requires c κs = search needs
+
+plus-requires : tie.Need-plus-requires Inv-loop μ-loop
+plus-requires c κs = search needs
+
+add-d : tie.Need-add-d Inv-loop μ-loop
+add-d c = search needs
+
+loop-less : tie.Need-loop-less Inv-loop μ-loop
+loop-less c = search needs
+
+loop-again : tie.Need-loop-again Inv-loop μ-loop
+loop-again c = search needs
+
+returns : tie.Need-returns Inv-loop μ-loop
+returns c = search needs
+
+pub marked-spec : {M : Type 1} → statement M
+marked-spec =
+    tie.close
+    (tie.spec
+    Inv-loop
+    μ-loop
+    loop-holds
+    at-requires
+    plus-requires
+    add-d
+    loop-less
+    loop-again
+    returns)
