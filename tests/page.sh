@@ -18,6 +18,16 @@ differs() {
     failed=1
 }
 
+# The tests, a line each: what is too long for the page goes on in the next line, behind four spaces.
+joined() {
+    awk '/^    / { line = line substr($0, 4); next } NR > 1 { print line } { line = $0 } END { print line }' "$tests"
+}
+
+# A test as the page has it: where it is too long for a line, the answer begins the next.
+wrapped() {
+    if [ ${#1} -le 100 ]; then echo "$1"; else sed 's/ |\([^|]*\)$/\n|\1/' <<<"$1" | fold -s -w 96 | sed -e 's/ *$//' -e '2,$s/^/    /'; fi
+}
+
 # The dumps of the page: a line `NAME: SIZE bytes, check figure XXXX`, then the lines with an offset, bytes and a figure.
 read_dumps() {
     local line name='' text=''
@@ -98,7 +108,7 @@ answer_of() {
     local line said
     line=$(line_of "$1")
     said=$(printf '%s\n%s\n' "$made" "$line" | "$program" && echo .)
-    said=${said##*"$line: "}
+    said=${said#*"$line: "}
     said=${said%$'\n'.}
     echo "${said//$'\n'/ / }" | sed 's/ *$//'
 }
@@ -147,7 +157,7 @@ try() {
     tried=$((tried + 1))
     short=$(shortened "$found")
     if [ "$fill" = yes ]; then
-        echo "$archive | $question | $short"
+        wrapped "$archive | $question | $short"
     elif [ "$short" != "$answer" ]; then
         differs "$1: found $short"
     fi
@@ -162,6 +172,6 @@ while IFS= read -r line; do
     '#'* | '') [ "$fill" = no ] || echo "$line" ;;
     *) try "$line" ;;
     esac
-done <"$tests"
+done < <(joined)
 tr "\n" " " <"$page" | grep -q "there are $tried tests" || differs "it does not say that there are $tried tests"
 exit "$failed"

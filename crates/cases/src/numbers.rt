@@ -18,6 +18,8 @@ pub struct Question {
     pub i: u32,
     pub j: u32,
     pub k: u32,
+    pub l: u32,
+    pub m: u32,
 }
 
 pub fn question_of(kind: u32, numbers: &[u32]) -> Question {
@@ -34,6 +36,8 @@ pub fn question_of(kind: u32, numbers: &[u32]) -> Question {
         i: at(numbers, 8),
         j: at(numbers, 9),
         k: at(numbers, 10),
+        l: at(numbers, 11),
+        m: at(numbers, 12),
     }
 }
 

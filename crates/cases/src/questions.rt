@@ -2,9 +2,9 @@
 use crate::numbers::Question;
 use crate::show;
 use answers::Answer;
-use conjunction::Terms;
+use moves::TopK;
+use paths::Terms;
 use top_k::Probed;
-use top_k::TopK;
 
 // Of so many bytes from a place on.
 pub fn ask(q: Question, start: u32, size: u32, bytes: &[u8]) {
@@ -45,31 +45,36 @@ fn number(q: Question, archive: &[u8]) -> Answer {
     }
 }
 
-// The first two numbers are how many numbers are lent, for the answer and for the work, or for entries and lengths. The lent slices hold nines, and are
-// printed after the answer.
+// The first two numbers are how many numbers are lent, for the answer and for the work, or for entries and lengths: at most 128, and for the work
+// so many that 4,096 documents can be searched. The lent slices hold nines, and are printed after the answer.
 fn ask_lent(q: Question, archive: &[u8]) {
     let mut answers = [9u32; 128];
-    let mut work = [9u32; 128];
+    let mut work = [9u32; 16400];
     let from = 0;
     let m = q.a as usize;
     let w = q.b as usize;
     if 128 < m {
         return;
     }
-    if 128 < w {
+    if 16400 < w {
         return;
     }
     fill(q, archive, &mut answers[from..m], &mut work[from..w]);
-    show::lent(&answers, q.a);
-    show::lent(&work, q.b);
 }
 
 fn fill(q: Question, archive: &[u8], answers: &mut [u32], work: &mut [u32]) {
+    found(q, archive, answers, work);
+    show::lent(answers);
+    show::lent(work);
+}
+
+fn found(q: Question, archive: &[u8], answers: &mut [u32], work: &mut [u32]) {
     let kind = q.kind;
     match kind {
         12 => show::reading(reader::read(archive, answers, work)),
         13..=15 => show::answer(list(q, archive, answers)),
         16 | 17 => show::top_k(greedy(q, archive, answers, work)),
+        21 => show::top_k(weighted(q, archive, answers, work)),
         _ => show::probed(probing(q, archive, answers, work)),
     }
 }
@@ -96,6 +101,15 @@ fn greedy(q: Question, archive: &[u8], answers: &mut [u32], work: &mut [u32]) ->
         return top_k::greedy_entries(archive, q.c, q.d, q.e, q.f, answers, work);
     }
     top_k::greedy_terms(archive, q.c, q.d, q.e, q.f, answers, work)
+}
+
+// k and the allowance, how many terms are asked, then eight.
+fn weighted(q: Question, archive: &[u8], answers: &mut [u32], work: &mut [u32]) -> TopK {
+    let asked = Terms {
+        numbers: [q.f, q.g, q.h, q.i, q.j, q.k, q.l, q.m],
+        size: q.e,
+    };
+    weighted::weighted(archive, asked, q.c, q.d, answers, work)
 }
 
 fn probing(q: Question, archive: &[u8], answers: &mut [u32], work: &mut [u32]) -> Probed {

@@ -4,11 +4,10 @@ use answers::Placed;
 use archive::Opening;
 use archive_ranges::Range;
 use libc::STDOUT_FILENO;
+use moves::TopK;
 use reader::Reading;
-use slices::at;
 use slices::low;
 use top_k::Probed;
-use top_k::TopK;
 
 pub fn show(text: &[u8]) {
     io::write_all(STDOUT_FILENO, text);
@@ -29,15 +28,15 @@ pub fn refused(x: u32) {
     next(x);
 }
 
-// The first so many numbers of a lent slice.
-pub fn lent(xs: &[u32; 128], size: u32) {
-    if size == 0 {
+// The numbers of a lent slice.
+pub fn lent(xs: &[u32]) {
+    if xs.len() == 0 {
         return;
     }
     show(b";");
     let mut i = 0;
-    while i < size {
-        next(at(xs, i));
+    while i < xs.len() {
+        next(xs[i]);
         i += 1;
     }
 }

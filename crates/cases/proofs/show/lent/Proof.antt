@@ -1,14 +1,15 @@
--- `lent`: the counter moves to its bound.
+-- `lent`: the counter moves to the end of the slice.
 use Prim.Native.Nat.{_-_}
+use lib.ListN.{length}
 use borrow.Author.Needs.{needs}
 use Rattle.cases.proofs.show.lent.Statement.{statement}
 use Rattle.cases.proofs.show.lent.Tie as tie
 
 abbrev Inv-loop : tie.InvT-loop
-Inv-loop xs size i₀ i = Unit {0}
+Inv-loop xs i₀ i = Unit {0}
 
 abbrev μ-loop : tie.MeasureT-loop
-μ-loop xs size i₀ i = size - i
+μ-loop xs i₀ i = length xs - i
 
 returns : tie.Need-returns Inv-loop μ-loop
 returns c = search needs
@@ -22,8 +23,11 @@ show-requires c κs = search needs
 loop-holds : tie.Need-loop-holds Inv-loop μ-loop
 loop-holds c = search needs
 
-at-requires : tie.Need-at-requires Inv-loop μ-loop
-at-requires c κs = search needs
+mul-next : tie.Need-mul-next Inv-loop μ-loop
+mul-next c = search needs
+
+shared-slice-read-next : tie.Need-shared-slice-read-next Inv-loop μ-loop
+shared-slice-read-next c = search needs
 
 next-requires : tie.Need-next-requires Inv-loop μ-loop
 next-requires c κs = search needs
@@ -50,7 +54,8 @@ lent-spec =
     slice-aggregate-show
     show-requires
     loop-holds
-    at-requires
+    mul-next
+    shared-slice-read-next
     next-requires
     add-i
     loop-less
