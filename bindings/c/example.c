@@ -73,6 +73,32 @@ static void search(void) {
   say("probing term 0, 1", code, answers, 2 * listed);
 }
 
+/* Rare terms weigh more: terms 0 and 2 have three and four of the four documents and weigh 1 and 0, term 1 has none and weighs 0. Documents
+ * of score 0 are listed too, but those without an entry are not. */
+static void weigh(void) {
+  uint32_t answers[2 * N], work[4 * N], listed = 0, end[2] = {9, 9};
+  const uint32_t both[] = {0, 2}, twice[] = {0, 0};
+  uint32_t code = masuvelior_weighted(archive, size, both, 2, 4, 3, answers, 2 * N, work, 4 * N, &listed, &end[0], &end[1]);
+  say("weighted 0 and 2, 4, 3", code, answers, 2 * listed);
+  say("  done", code, end, 2);
+  code = masuvelior_weighted(archive, size, both, 2, 4, 2, answers, 2 * N, work, 4 * N, &listed, &end[0], &end[1]);
+  say("weighted 0 and 2, 4, 2", code, answers, 2 * listed);
+  say("  spent", code, end, 2);
+  code = masuvelior_weighted(archive, size, both, 2, 1, 1, answers, 2, work, 4 * N, &listed, &end[0], &end[1]);
+  say("weighted 0 and 2, 1, 1", code, answers, 2 * listed);
+  say("  spent", code, end, 2);
+  code = masuvelior_opened_weighted(archive, size, both + 1, 1, 4, 3, answers, 2 * N, work, 4 * N, &listed, &end[0], &end[1]);
+  say("opened weighted 2, 4, 3", code, answers, 2 * listed);
+  say("  done", code, end, 2);
+  const uint32_t none[] = {1};
+  code = masuvelior_opened_weighted(archive, size, none, 1, 2, 0, answers, 4, work, 4 * N, &listed, &end[0], &end[1]);
+  say("opened weighted 1, 2, 0", code, answers, 2 * listed);
+  say("  done", code, end, 2);
+  code = masuvelior_opened_weighted(archive, size, twice, 2, 2, 2, answers, 4, work, 4 * N, &listed, &end[0], &end[1]);
+  say("opened weighted 0 and 0, 2, 2", code, answers, 2 * listed);
+  say("  done", code, end, 2);
+}
+
 /* Many questions of one archive: it was opened once, and is not checked again. */
 static void ask_opened(void) {
   uint32_t x = 99, range[2], answers[2 * N], work[4 * N], listed = 0, end[2];
@@ -109,13 +135,23 @@ static void ask_opened(void) {
 /* A refusal answers its number and leaves what is lent as it was. */
 static void refusals(void) {
   uint32_t x = 99, listed = 98, answers[2 * N] = {5, 5, 5, 5, 5, 5, 5, 5}, work[4 * N] = {6}, end[2] = {97, 96};
-  const uint32_t nine[] = {0, 0, 0, 0, 0, 0, 0, 0, 0};
+  const uint32_t nine[] = {0, 0, 0, 0, 0, 0, 0, 0, 0}, three[] = {3};
   say("access 8", masuvelior_access(archive, size, 8, &x), &x, 1);
   say("opened access 8", masuvelior_opened_access(archive, size, 8, &x), &x, 1);
   say("nine terms", masuvelior_conjunction(archive, size, nine, 9, answers, 2 * N, &listed), &listed, 1);
   say("opened no terms", masuvelior_opened_conjunction(archive, size, nine, 0, answers, 2 * N, &listed), &listed, 1);
   say("list, short answers", masuvelior_opened_list(archive, size, 0, 8, answers, 2 * N - 1, &listed), &listed, 1);
   say("greedy, short work", masuvelior_greedy_entries(archive, size, 0, 8, 2, 9, answers, 4, work, 4 * N - 1, &listed, &end[0], &end[1]), end, 2);
+  uint32_t code = masuvelior_weighted(archive, size, nine, 9, 2, 9, answers, 4, work, 4 * N, &listed, &end[0], &end[1]);
+  say("weighted, nine terms", code, end, 2);
+  code = masuvelior_opened_weighted(archive, size, nine, 0, 2, 9, answers, 4, work, 4 * N, &listed, &end[0], &end[1]);
+  say("opened weighted, no terms", code, end, 2);
+  code = masuvelior_weighted(archive, size, three, 1, 2, 9, answers, 4, work, 4 * N, &listed, &end[0], &end[1]);
+  say("weighted, term 3", code, end, 2);
+  code = masuvelior_weighted(archive, size, nine, 1, 2, 9, answers, 3, work, 4 * N, &listed, &end[0], &end[1]);
+  say("weighted, short answers", code, end, 2);
+  code = masuvelior_opened_weighted(archive, size, nine, 1, 2, 9, answers, 4, work, 4 * N - 1, &listed, &end[0], &end[1]);
+  say("opened weighted, short work", code, &listed, 1);
   say("  answers", 0, answers, 2 * N);
   say("  work", 0, work, 1);
 }
@@ -126,6 +162,7 @@ int main(int argc, char **argv) {
   open_and_read();
   ask();
   search();
+  weigh();
   ask_opened();
   refusals();
   fputs(said, stdout);

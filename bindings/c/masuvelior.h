@@ -2,8 +2,9 @@
  *
  * The library is target/staticlib/libmasuvelior.a, which `rt staticlib masuvelior` proves and builds, for x86-64 Linux. It needs no other
  * library than C's, of that memcpy and memset alone, has no state, allocates nothing and may be called from several threads at once. Of the
- * stack a call takes up to 25 KB (masuvelior_write), 17 KB (masuvelior_read and masuvelior_opened_read) or 4 KB (all others); a program that
- * binds memcpy and memset at their first call lets the loader take 3 KB more there.
+ * stack a call takes up to 25 KB (masuvelior_write), 17 KB (masuvelior_read and masuvelior_opened_read), 7 KB (masuvelior_weighted and
+ * masuvelior_opened_weighted) or 4 KB (all others); a program that binds memcpy and memset at their first call lets the loader take 3 KB
+ * more there.
  *
  * The answer of each function is 0, or the number of a refusal (enum masuvelior_refusal). Where it is 0 each out-parameter is written, and
  * the lent slices as the function says. Where it is not 0 nothing is written at all.
@@ -35,9 +36,10 @@
  * where a function's parameters or answers change. */
 #define MASUVELIOR_EDITION 1
 #define MASUVELIOR_VERSION_MAJOR 1
-#define MASUVELIOR_VERSION_MINOR 0
+#define MASUVELIOR_VERSION_MINOR 1
 
-/* The limits: n is 0 to MASUVELIOR_MAX_ENTRIES, N and W are 1 to theirs, and a conjunction has 1 to MASUVELIOR_MAX_CHOSEN terms. */
+/* The limits: n is 0 to MASUVELIOR_MAX_ENTRIES, N and W are 1 to theirs, and a conjunction or a weighted search has 1 to
+ * MASUVELIOR_MAX_CHOSEN terms. */
 #define MASUVELIOR_MAX_ENTRIES 65535
 #define MASUVELIOR_MAX_DOCUMENTS 4096
 #define MASUVELIOR_MAX_TERMS 4096
@@ -46,7 +48,8 @@
 /* The place that select answers where there is none: no entry has it. */
 #define MASUVELIOR_NONE UINT32_MAX
 
-/* How many numbers are asked for: in the answer slice of list and conjunction, in that of top-k, and in the work slice of top-k. */
+/* How many numbers are asked for: in the answer slice of list and conjunction, in that of top-k, by count or by score, and in the work
+ * slice of top-k. */
 #define MASUVELIOR_LIST_LENGTH(documents) (2 * (size_t)(documents))
 #define MASUVELIOR_TOP_K_LENGTH(k, documents) (2 * (size_t)((k) < (documents) ? (k) : (documents)))
 #define MASUVELIOR_WORK_LENGTH(documents) (4 * (size_t)(documents))
@@ -84,7 +87,7 @@ enum masuvelior_refusal {
   MASUVELIOR_REFUSED_UNUSED_BIT = 8, /* an unused bit of a row is 1 */
   MASUVELIOR_REFUSED_ENTRY = 9, /* an entry is N or more */
   /* a question */
-  MASUVELIOR_REFUSED_TERM_COUNT = 10, /* a conjunction of no terms, or of more than eight */
+  MASUVELIOR_REFUSED_TERM_COUNT = 10, /* no terms, or more than eight */
   MASUVELIOR_REFUSED_ARGUMENT = 11, /* an argument is outside its range */
   /* lent slices */
   MASUVELIOR_REFUSED_ANSWER_SLICE = 12, /* the answer slice, or one of read's two slices, is too short */
@@ -180,7 +183,7 @@ uint32_t masuvelior_range_of_terms(const uint8_t *archive, size_t archive_length
 MASUVELIOR_MUST_USE
 uint32_t masuvelior_per_mille(uint32_t count, uint32_t size, uint32_t *rate);
 
-/* ---- top-k: the first k documents of a range by larger count, equal counts by lower number, as pairs
+/* ---- top-k: the first k documents of a range by larger count, or of chosen terms by larger score, equal ones by lower number, as pairs
  *
  * After an answer the first 4 * N numbers of the work slice are 0 and the rest of it is untouched; what it held before does not matter.
  * 12: answers under 2 * min(k, N) numbers (MASUVELIOR_TOP_K_LENGTH). 13: work under 4 * N numbers (MASUVELIOR_WORK_LENGTH). */
@@ -212,6 +215,20 @@ uint32_t masuvelior_probing_entries(const uint8_t *archive, size_t archive_lengt
 MASUVELIOR_MUST_USE
 uint32_t masuvelior_probing_terms(const uint8_t *archive, size_t archive_length, uint32_t first, uint32_t last, uint32_t k,
                                   uint32_t *answers, size_t answers_length, uint32_t *work, size_t work_length, uint32_t *listed);
+
+/* The weighted search, in which rare terms weigh more: the first k of the documents with an entry under one or more of the chosen terms, by
+ * larger score, equal scores by lower number, as pairs of document and score. A term that df different documents have weighs the largest g
+ * with 2^g * df^4 at most N^4, which is 0 to 48; a term without entries weighs 0. A document's score is the sum, over the chosen terms, of
+ * the term's weight times the document's count under it: 0, with which it is listed too, to 25,165,440. A term given twice counts twice.
+ * The allowance, `spent` and `number` are as in masuvelior_greedy_entries, with scores for counts; a node without an entry of these terms is
+ * never opened. 10: no term or more than eight. 11: a term W or more.
+ * Cost: for the weights, up to 4 ranks for each node where a term has two entries or more: at most h for each document of the term. Then 2 ranks,
+ * and 2 for each term with an entry there, for each node opened and for each node above it that is not above the one opened before: at most
+ * h in all; for each node opened or document named a step in a heap of the waiting nodes; and 4 * N numbers cleared. */
+MASUVELIOR_MUST_USE
+uint32_t masuvelior_weighted(const uint8_t *archive, size_t archive_length, const uint32_t *chosen, size_t chosen_length, uint32_t k,
+                             uint32_t allowance, uint32_t *answers, size_t answers_length, uint32_t *work, size_t work_length,
+                             uint32_t *listed, uint32_t *spent, uint32_t *number);
 
 /* ---- the same for an archive that was opened before, without the check
  *
@@ -275,6 +292,11 @@ MASUVELIOR_MUST_USE
 uint32_t masuvelior_opened_probing_terms(const uint8_t *archive, size_t archive_length, uint32_t first, uint32_t last, uint32_t k,
                                          uint32_t *answers, size_t answers_length, uint32_t *work, size_t work_length,
                                          uint32_t *listed);
+
+MASUVELIOR_MUST_USE
+uint32_t masuvelior_opened_weighted(const uint8_t *archive, size_t archive_length, const uint32_t *chosen, size_t chosen_length,
+                                    uint32_t k, uint32_t allowance, uint32_t *answers, size_t answers_length, uint32_t *work,
+                                    size_t work_length, uint32_t *listed, uint32_t *spent, uint32_t *number);
 
 #ifdef __cplusplus
 }

@@ -7,7 +7,7 @@
 #include <ucontext.h>
 
 enum { STACK = 1 << 17, PAINT = 0xA5, N = MASUVELIOR_MAX_DOCUMENTS, W = MASUVELIOR_MAX_TERMS, ENTRIES = MASUVELIOR_MAX_ENTRIES };
-enum { WRITER = 25 * 1024, READER = 17 * 1024, OTHER = 4 * 1024 };
+enum { WRITER = 25 * 1024, READER = 17 * 1024, WEIGHTED = 7 * 1024, OTHER = 4 * 1024 };
 
 /* A library at every limit, with entries in every node: calls go all their way. */
 static uint32_t entries[ENTRIES], lengths[W], answers[2 * N], work[4 * N], listed, spent, number;
@@ -38,7 +38,8 @@ static void make_library(void) {
   X(form##greedy_entries, OTHER, (BYTES, 0, ENTRIES, N, UINT32_MAX, SEARCH, &spent, &number))                \
   X(form##greedy_terms, OTHER, (BYTES, 0, W - 1, N, UINT32_MAX, SEARCH, &spent, &number))                    \
   X(form##probing_entries, OTHER, (BYTES, 0, ENTRIES, N, SEARCH))                                            \
-  X(form##probing_terms, OTHER, (BYTES, 0, W - 1, N, SEARCH))
+  X(form##probing_terms, OTHER, (BYTES, 0, W - 1, N, SEARCH))                                                \
+  X(form##weighted, WEIGHTED, (BYTES, chosen, MASUVELIOR_MAX_CHOSEN, N, UINT32_MAX, SEARCH, &spent, &number))
 #define CALLS(X)                                                                                             \
   X(archive_length, OTHER, (ENTRIES, N, W, &needed))                                                         \
   X(write, WRITER, (entries, ENTRIES, lengths, W, N, archive, sizeof archive, &size))                        \
@@ -90,6 +91,6 @@ int main(void) {
       failed = 1;
     }
   }
-  printf("stack: the deepest of the %zu others takes %zu bytes\n", count - 3, deepest);
+  printf("stack: the deepest of the %zu others takes %zu bytes\n", count - 5, deepest);
   return failed;
 }

@@ -43,6 +43,14 @@ void ask(std::vector<uint8_t> &archive) {
   const uint32_t greedy = masuvelior_greedy_entries(lent(archive), archive.size(), 0, 0, 0, 0, lent(none), none.size(),
                                                     lent(work), work.size(), &listed, &spent, &number);
   expect("no documents asked for", greedy == MASUVELIOR_OK && listed == 0 && spent == 0 && number == 0 && work[19] == 0);
+  const std::vector<uint32_t> term = {1};
+  work.assign(work.size(), 9);
+  const uint32_t weighted = masuvelior_weighted(lent(archive), archive.size(), lent(term), term.size(), 0, 0,
+                                                lent(none), none.size(), lent(work), work.size(), &listed, &spent, &number);
+  expect("no documents weighed", weighted == MASUVELIOR_OK && listed == 0 && spent == 0 && number == 0 && work[19] == 0);
+  const uint32_t nothing = masuvelior_weighted(lent(archive), archive.size(), lent(none), none.size(), 0, 0,
+                                               lent(none), none.size(), lent(work), work.size(), &listed, &spent, &number);
+  expect("no terms to weigh", nothing == MASUVELIOR_REFUSED_TERM_COUNT && listed == 0);
 }
 
 }  // namespace
