@@ -35,6 +35,13 @@ fn main() -> Result<(), Box<dyn Error>> {
         println!("  {} times: {}", found.count, TEXTS[found.document as usize]);
     }
 
+    // 'storm' is in two of the texts and 'the' in four, so that it weighs more.
+    println!("'storm' or 'the', rare words first:");
+    let (found, _) = archive.weighted(&[numbers["storm"], numbers["the"]], 3, u32::MAX)?;
+    for scored in found {
+        println!("  score {}: {}", scored.score, TEXTS[scored.document as usize]);
+    }
+
     // Neighbours in the dictionary are one range: 'storm' to 'tide' has 'the' between them.
     let range = numbers["storm"]..=numbers["tide"];
     let size = archive.range_of_terms(range.clone())?.len() as u32;

@@ -27,6 +27,11 @@
 //! assert_eq!(ended, Ended::Done { openings: 3 });
 //!
 //! assert_eq!(archive.list(Entries(3..5))?, [(2, 1), (3, 1)]);
+//!
+//! // Rare terms weigh more: term 0 is in three of the four documents, term 2 in each of them, so their weights are 1 and 0.
+//! let (documents, ended) = archive.weighted(&[0, 2], 4, 3)?;
+//! assert_eq!(documents, [(0, 1), (1, 1), (3, 1), (2, 0)]); // each with its score
+//! assert_eq!(ended, Ended::Done { openings: 3 });
 //! # Ok::<(), masuvelior::Refusal>(())
 //! ```
 #![warn(missing_docs)]
@@ -34,18 +39,19 @@
 
 mod archive;
 mod argument;
-mod counted;
+mod pairs;
 mod per_mille;
 mod questions;
 mod range;
 mod refusal;
 mod sys;
 mod top_k;
+mod weighted;
 mod write;
 
 pub use archive::Archive;
 pub use argument::Argument;
-pub use counted::Counted;
+pub use pairs::{Counted, Scored};
 pub use per_mille::per_mille;
 pub use range::Over;
 pub use refusal::Refusal;

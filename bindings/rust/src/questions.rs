@@ -1,7 +1,7 @@
 //! The questions asked of an archive; top-k has a file of its own.
 use crate::archive::Archive;
 use crate::argument::Argument;
-use crate::counted::{numbers, room, Counted};
+use crate::pairs::{numbers, room, Counted};
 use crate::range::{term_ends, Over};
 use crate::refusal::{outcome, Refusal};
 use crate::sys;

@@ -34,7 +34,7 @@ pub enum Refusal {
     UnusedBit,
     /// 9, opening: an entry is N or more.
     Entry,
-    /// 10, a question: a conjunction of no terms or of more than eight.
+    /// 10, a question: no terms, or more than eight.
     TermCount,
     /// 11, a question: an argument is outside its range, and which.
     Argument(Argument),
@@ -102,7 +102,7 @@ impl Refusal {
             Refusal::Sample => (7, "a sample is wrong"),
             Refusal::UnusedBit => (8, "an unused bit of a row is 1"),
             Refusal::Entry => (9, "an entry is N or more"),
-            Refusal::TermCount => (10, "a conjunction of no terms, or of more than eight"),
+            Refusal::TermCount => (10, "no terms, or more than eight"),
             Refusal::Argument(_) => (11, "an argument is outside its range"),
             Refusal::AnswerSlice => (12, "the answer slice, or one of read's two slices, is too short"),
             Refusal::WorkSlice => (13, "the work slice is too short"),

@@ -44,6 +44,7 @@ declare! {
     masuvelior_greedy_terms(archive: *const u8, archive_length: usize, first: u32, last: u32, k: u32, allowance: u32, answers: *mut u32, answers_length: usize, work: *mut u32, work_length: usize, listed: *mut u32, spent: *mut u32, number: *mut u32);
     masuvelior_probing_entries(archive: *const u8, archive_length: usize, a: u32, b: u32, k: u32, answers: *mut u32, answers_length: usize, work: *mut u32, work_length: usize, listed: *mut u32);
     masuvelior_probing_terms(archive: *const u8, archive_length: usize, first: u32, last: u32, k: u32, answers: *mut u32, answers_length: usize, work: *mut u32, work_length: usize, listed: *mut u32);
+    masuvelior_weighted(archive: *const u8, archive_length: usize, chosen: *const u32, chosen_length: usize, k: u32, allowance: u32, answers: *mut u32, answers_length: usize, work: *mut u32, work_length: usize, listed: *mut u32, spent: *mut u32, number: *mut u32);
 }
 
 // The same for an archive that was opened before, without the check: the caller keeps OPENED.
@@ -62,4 +63,5 @@ declare! {
     masuvelior_opened_greedy_terms(archive: *const u8, archive_length: usize, first: u32, last: u32, k: u32, allowance: u32, answers: *mut u32, answers_length: usize, work: *mut u32, work_length: usize, listed: *mut u32, spent: *mut u32, number: *mut u32);
     masuvelior_opened_probing_entries(archive: *const u8, archive_length: usize, a: u32, b: u32, k: u32, answers: *mut u32, answers_length: usize, work: *mut u32, work_length: usize, listed: *mut u32);
     masuvelior_opened_probing_terms(archive: *const u8, archive_length: usize, first: u32, last: u32, k: u32, answers: *mut u32, answers_length: usize, work: *mut u32, work_length: usize, listed: *mut u32);
+    masuvelior_opened_weighted(archive: *const u8, archive_length: usize, chosen: *const u32, chosen_length: usize, k: u32, allowance: u32, answers: *mut u32, answers_length: usize, work: *mut u32, work_length: usize, listed: *mut u32, spent: *mut u32, number: *mut u32);
 }

@@ -1,11 +1,11 @@
-//! The two top-k searches.
+//! The two top-k searches by count.
 use crate::archive::Archive;
-use crate::counted::{numbers, room, Counted};
+use crate::pairs::{numbers, room, Counted};
 use crate::range::Over;
 use crate::refusal::{outcome, Refusal};
 use crate::sys;
 
-/// How a greedy search ended.
+/// How a search with an allowance ended, greedy or weighted.
 #[derive(Clone, Copy, Debug, PartialEq, Eq, Hash)]
 pub enum Ended {
     /// It is done: the answer is whole, and took so many openings.
@@ -18,6 +18,16 @@ pub enum Ended {
         /// The allowance that was given.
         allowance: u32,
     },
+}
+
+impl Ended {
+    /// What the header's `spent` and `number` say.
+    pub(crate) fn of(spent: u32, number: u32) -> Ended {
+        match spent {
+            0 => Ended::Done { openings: number },
+            _ => Ended::Spent { allowance: number },
+        }
+    }
 }
 
 /// Top-k: the first k documents of a range by larger count, equal counts by lower number.
@@ -105,11 +115,7 @@ impl Archive<'_> {
             )
         };
         outcome(answer, ()).map_err(|refusal| self.about_range(refusal, &over))?;
-        let ended = match spent {
-            0 => Ended::Done { openings: number },
-            _ => Ended::Spent { allowance: number },
-        };
-        Ok((&answers[..listed as usize], ended))
+        Ok((&answers[..listed as usize], Ended::of(spent, number)))
     }
 
     /// The whole answer by probing, without an allowance. Cost: 4 × h ranks for each probe. Where the last of k documents has count c,
@@ -162,12 +168,12 @@ impl Archive<'_> {
         Ok(&answers[..listed as usize])
     }
 
-    /// How many pairs an answer of top-k may have, and so how many must be lent for it: k, or N where that is less.
+    /// How many pairs an answer of top-k, weighted too, may have, and so how many must be lent for it: k, or N where that is less.
     pub fn answer_length(&self, k: u32) -> usize {
         k.min(self.documents()) as usize
     }
 
-    /// How many numbers must be lent to top-k for its work: 4 × N.
+    /// How many numbers must be lent to top-k, weighted too, for its work: 4 × N.
     pub fn work_length(&self) -> usize {
         4 * self.documents() as usize
     }

@@ -22,6 +22,7 @@ fn of_one_number() {
     for x in EDGES {
         hold(archive.access(x), &[(x >= 8, Argument::Place)]);
         hold(archive.conjunction(&[0, x]), &[(x >= 3, Argument::Term)]);
+        hold(archive.weighted(&[x, 2], 2, 9), &[(x >= 3, Argument::Term)]);
         for y in EDGES {
             hold(archive.rank(x, y), &[(x >= 4, Argument::Document), (y > 8, Argument::Before)]);
             hold(archive.select(x, y), &[(x >= 4, Argument::Document), (y == 0, Argument::Occurrence)]);

@@ -1,7 +1,7 @@
 //! Questions put through the crate: in vectors of its own, and in slices that we lend.
 use crate::questions::{Answer, Question, Span};
 use crate::sys;
-use masuvelior::{Archive, Counted, Ended, Over, Refusal};
+use masuvelior::{Archive, Counted, Ended, Over, Refusal, Scored};
 
 /// Slices to lend, full of numbers that differ from each other.
 #[derive(Clone, Debug, PartialEq)]
@@ -47,7 +47,10 @@ pub fn whole(archive: &Archive, question: &Question) -> Result<Answer, u32> {
             });
         }
         Question::Greedy { span, k, allowance } => {
-            archive.greedy(over(*span), *k, *allowance).map(|(found, ended)| greedy(&found, ended))
+            archive.greedy(over(*span), *k, *allowance).map(|(found, ended)| with_end(&found, ended))
+        }
+        Question::Weighted { terms, k, allowance } => {
+            archive.weighted(terms, *k, *allowance).map(|(found, ended)| with_end(&found, ended))
         }
         Question::Probing { span, k } => archive.probing(over(*span), *k).map(|found| pairs(&found)),
         Question::List { span } => archive.list(over(*span)).map(|found| pairs(&found)),
@@ -67,10 +70,25 @@ pub fn lent(archive: &Archive, question: &Question, scratch: &mut Scratch) -> Re
             second: scratch.second[..archive.terms() as usize].to_vec(),
         });
     }
-    let mut lent: Vec<Counted> = scratch.first.chunks_exact(2).map(|pair| Counted::from((pair[0], pair[1]))).collect();
-    let answer = lent_pairs(archive, question, &mut lent, &mut scratch.second);
-    scratch.first = flat(&lent);
+    let work = &mut scratch.second;
+    let answer = match question {
+        Question::Weighted { terms, k, allowance } => in_pairs::<Scored>(&mut scratch.first, |lent| {
+            archive.weighted_into(terms, *k, *allowance, lent, work).map(|(found, ended)| with_end(found, ended))
+        }),
+        _ => in_pairs::<Counted>(&mut scratch.first, |lent| lent_pairs(archive, question, lent, work)),
+    };
     answer.map_err(Refusal::number)
+}
+
+/// Asks with pairs made of the lent numbers; what they are afterwards are the numbers again.
+fn in_pairs<P: Copy + From<(u32, u32)> + Into<(u32, u32)>>(
+    numbers: &mut Vec<u32>,
+    ask: impl FnOnce(&mut [P]) -> Result<Answer, Refusal>,
+) -> Result<Answer, Refusal> {
+    let mut lent: Vec<P> = numbers.chunks_exact(2).map(|pair| P::from((pair[0], pair[1]))).collect();
+    let answer = ask(&mut lent);
+    *numbers = flat(&lent);
+    answer
 }
 
 fn lent_pairs(
@@ -83,7 +101,7 @@ fn lent_pairs(
         Question::List { span } => archive.list_into(over(*span), lent).map(pairs),
         Question::Conjunction { terms } => archive.conjunction_into(terms, lent).map(pairs),
         Question::Greedy { span, k, allowance } => {
-            archive.greedy_into(over(*span), *k, *allowance, lent, work).map(|(found, ended)| greedy(found, ended))
+            archive.greedy_into(over(*span), *k, *allowance, lent, work).map(|(found, ended)| with_end(found, ended))
         }
         Question::Probing { span, k } => archive.probing_into(over(*span), *k, lent, work).map(pairs),
         _ => numbers(archive, question),
@@ -108,15 +126,19 @@ fn numbers(archive: &Archive, question: &Question) -> Result<Answer, Refusal> {
     Ok(Answer { numbers, ..Answer::default() })
 }
 
-fn flat(found: &[Counted]) -> Vec<u32> {
-    found.iter().flat_map(|pair| [pair.document, pair.count]).collect()
+fn flat<P: Copy + Into<(u32, u32)>>(found: &[P]) -> Vec<u32> {
+    let two = |pair: &P| {
+        let (document, number) = (*pair).into();
+        [document, number]
+    };
+    found.iter().flat_map(two).collect()
 }
 
-fn pairs(found: &[Counted]) -> Answer {
+fn pairs<P: Copy + Into<(u32, u32)>>(found: &[P]) -> Answer {
     Answer { numbers: vec![found.len() as u32], first: flat(found), second: vec![] }
 }
 
-fn greedy(found: &[Counted], ended: Ended) -> Answer {
+fn with_end<P: Copy + Into<(u32, u32)>>(found: &[P], ended: Ended) -> Answer {
     let mut answer = pairs(found);
     answer.numbers.extend(match ended {
         Ended::Done { openings } => [0, openings],

@@ -18,7 +18,9 @@ pub fn needed(library: &Library, question: &Question) -> Lent {
     let (first, second) = match question {
         Question::Read => (library.entries.len(), library.lengths.len()),
         Question::List { .. } | Question::Conjunction { .. } => (2 * documents, 0),
-        Question::Greedy { k, .. } | Question::Probing { k, .. } => (2 * documents.min(*k as usize), 4 * documents),
+        Question::Greedy { k, .. } | Question::Probing { k, .. } | Question::Weighted { k, .. } => {
+            (2 * documents.min(*k as usize), 4 * documents)
+        }
         _ => (0, 0),
     };
     Lent { first, second }
@@ -63,8 +65,13 @@ fn compare_lent(archive: &Archive, library: &Library, question: &Question, slice
 }
 
 /// Puts a question through its C name: the right number, and everything that it may write.
-fn compare_raw(bytes: &[u8], form: Form, question: &Question, slices: Lent, right: &Result<Answer, u32>) {
-    let mut scratch = Scratch::new(slices.first, slices.second);
+pub fn compare_raw(bytes: &[u8], form: Form, question: &Question, slices: Lent, right: &Result<Answer, u32>) {
+    compare_in(bytes, form, question, Scratch::new(slices.first, slices.second), right);
+}
+
+/// The same in slices that hold what we like.
+pub fn compare_in(bytes: &[u8], form: Form, question: &Question, mut scratch: Scratch, right: &Result<Answer, u32>) {
+    let slices = (scratch.first.len(), scratch.second.len());
     let after = scratch.after(right);
     let mut out_after = UNWRITTEN;
     if let Ok(right) = right {

@@ -11,8 +11,10 @@ mod print;
 mod questions;
 mod random;
 mod raw;
+mod scores;
 mod sweep;
 mod threads;
+mod weighted;
 mod writer;
 
 /// `bindings/c/masuvelior.h`, as the crate declares it.

@@ -92,6 +92,28 @@ fn top_k_of_the_small_library() -> Result<(), Refusal> {
     Ok(())
 }
 
+/// Terms 0 and 2 weigh 1 and 0.
+#[test]
+fn weighted_of_the_small_library() -> Result<(), Refusal> {
+    let bytes = write(&[3, 1, 0, 3, 2, 1, 3, 0], &[3, 0, 5], 4)?;
+    let archive = Archive::open(&bytes)?;
+    let (done, spent) = (|openings| Ended::Done { openings }, |allowance| Ended::Spent { allowance });
+    let cases: [(&[u32], _, _, &[_], _); 6] = [
+        (&[0, 2], 4, 3, &[(0, 1), (1, 1), (3, 1), (2, 0)], done(3)),
+        (&[0, 2], 4, 2, &[(0, 1), (1, 1)], spent(2)),
+        (&[0, 2], 1, 1, &[], spent(1)),
+        (&[2], 4, 3, &[(0, 0), (1, 0), (2, 0), (3, 0)], done(3)),
+        (&[1], 2, 0, &[], done(0)),
+        (&[0, 0], 2, 2, &[(0, 2), (1, 2)], done(2)),
+    ];
+    for (terms, k, allowance, documents, ended) in cases {
+        let got = archive.weighted(terms, k, allowance)?;
+        assert_eq!(got.0, documents, "{terms:?}, k {k}, allowance {allowance}");
+        assert_eq!(got.1, ended, "{terms:?}, k {k}, allowance {allowance}");
+    }
+    Ok(())
+}
+
 #[test]
 fn one_document_has_no_rows() -> Result<(), Refusal> {
     let bytes = write(&[0; 3], &[3], 1)?;

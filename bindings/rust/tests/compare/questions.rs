@@ -1,5 +1,6 @@
 //! The model of the questions, after `docs/FORMAT.md`: plain counts over the plain list.
 use crate::library::{height, Library};
+use crate::weighted::weigh;
 
 /// A range: entries a to b, or terms first to last.
 #[derive(Clone, Copy, Debug, PartialEq)]
@@ -21,6 +22,7 @@ pub enum Question {
     RangeOfTerms { first: u32, last: u32 },
     Greedy { span: Span, k: u32, allowance: u32 },
     Probing { span: Span, k: u32 },
+    Weighted { terms: Vec<u32>, k: u32, allowance: u32 },
 }
 
 /// How many numbers are lent in the first slice (answers, or entries) and in the second (work, or term lengths).
@@ -44,7 +46,7 @@ pub struct Answer {
 /// The place that the header gives where there is none.
 const NONE: u32 = u32::MAX;
 
-type Pairs = Vec<(u32, u32)>;
+pub type Pairs = Vec<(u32, u32)>;
 
 /// What the library answers, or the number of the refusal: the lowest that applies.
 pub fn answer(library: &Library, question: &Question, lent: Lent) -> Result<Answer, u32> {
@@ -79,6 +81,12 @@ pub fn answer(library: &Library, question: &Question, lent: Lent) -> Result<Answ
             top_k_room(library, *k, lent)?;
             let found = listed(full_list(range, library.documents, *k));
             Ok(with_work(found, library))
+        }
+        Question::Weighted { terms, k, allowance } => {
+            let weighed = weigh(library, terms)?;
+            top_k_room(library, *k, lent)?;
+            let full = ranked(weighed.listing(), *k);
+            Ok(with_allowance(library, full, &weighed.nodes(), *allowance))
         }
     }
 }
@@ -159,7 +167,7 @@ fn term_range(library: &Library, first: u32, last: u32) -> Result<(usize, usize)
 }
 
 /// The entries of a range.
-fn part(library: &Library, span: Span) -> Result<&[u32], u32> {
+pub fn part(library: &Library, span: Span) -> Result<&[u32], u32> {
     let (a, b) = match span {
         Span::Entries(a, b) => (a as usize, b as usize),
         Span::Terms(first, last) => term_range(library, first, last)?,
@@ -171,7 +179,7 @@ fn part(library: &Library, span: Span) -> Result<&[u32], u32> {
 }
 
 /// The count of each number below `size` in the range.
-fn counts(range: &[u32], size: u32) -> Vec<u32> {
+pub fn counts(range: &[u32], size: u32) -> Vec<u32> {
     let mut counts = vec![0; size as usize];
     for entry in range {
         counts[*entry as usize] += 1;
@@ -202,7 +210,11 @@ fn conjunction(library: &Library, terms: &[u32]) -> Result<Pairs, u32> {
 
 /// The first k documents of the range by larger count, then lower number.
 fn full_list(range: &[u32], documents: u32, k: u32) -> Pairs {
-    let mut ranking = listing(range, documents);
+    ranked(listing(range, documents), k)
+}
+
+/// The first k of these documents by larger count or score, then lower number.
+fn ranked(mut ranking: Pairs, k: u32) -> Pairs {
     ranking.sort_by(|x, y| y.1.cmp(&x.1).then(x.0.cmp(&y.0)));
     ranking.truncate(k as usize);
     ranking
@@ -234,15 +246,18 @@ fn need(nodes: &[(u32, u32)], front: &[(u32, u32)]) -> u32 {
     nodes.iter().filter(counts).count() as u32
 }
 
-/// 'Done' with the full list and its need, or 'spent' with the longest front part that the allowance covers.
 fn greedy(library: &Library, range: &[u32], k: u32, allowance: u32) -> Answer {
-    let mut full = full_list(range, library.documents, k);
-    let nodes = nodes(range, library.documents);
-    let needed = need(&nodes, &full);
+    let full = full_list(range, library.documents, k);
+    with_allowance(library, full, &nodes(range, library.documents), allowance)
+}
+
+/// 'Done' with the full list and its need, or 'spent' with the longest front part that the allowance covers.
+fn with_allowance(library: &Library, mut full: Pairs, nodes: &[(u32, u32)], allowance: u32) -> Answer {
+    let needed = need(nodes, &full);
     let (spent, number) = if needed <= allowance {
         (0, needed)
     } else {
-        let covered = |front: &usize| need(&nodes, &full[..*front]) <= allowance;
+        let covered = |front: &usize| need(nodes, &full[..*front]) <= allowance;
         let front = (0..full.len()).rev().find(covered).unwrap();
         full.truncate(front);
         (1, allowance)

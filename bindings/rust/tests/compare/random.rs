@@ -23,6 +23,12 @@ impl Random {
         ((u64::from(self.next()) * u64::from(bound)) >> 32) as u32
     }
 
+    /// A number of at most so many bits: small ones as often as large ones.
+    pub fn of_bits(&mut self, bits: u32) -> u32 {
+        let bound = 1 << self.below(bits + 1);
+        self.below(bound)
+    }
+
     pub fn one_in(&mut self, times: u32) -> bool {
         self.below(times) == 0
     }
@@ -96,7 +102,7 @@ pub fn question(random: &mut Random, library: &Library) -> Question {
     let n = library.entries.len() as u32;
     let (documents, terms) = (library.documents, library.lengths.len() as u32);
     let span = span(random, library);
-    match random.below(12) {
+    match random.below(14) {
         0 => Question::Read,
         1 => Question::Access { place: random.near(n) },
         2 => Question::Rank { document: random.near(documents), place: random.near(n + 1) },
@@ -105,13 +111,24 @@ pub fn question(random: &mut Random, library: &Library) -> Question {
         5 => Question::List { span },
         6 => Question::RangeOfTerms { first: random.near(terms), last: random.near(terms) },
         7 => Question::Probing { span, k: random.near(documents + 1) },
-        8 | 9 => Question::Conjunction { terms: conjunction(random, terms) },
+        8 | 9 => Question::Conjunction { terms: chosen(random, terms) },
+        10 | 11 => weighted(random, library),
         _ => Question::Greedy { span, k: random.near(documents + 1), allowance: random.near(2 * documents) },
     }
 }
 
+/// A weighted search: mostly one that is answered.
+pub fn weighted(random: &mut Random, library: &Library) -> Question {
+    let documents = library.documents;
+    Question::Weighted {
+        terms: chosen(random, library.lengths.len() as u32),
+        k: random.near(documents + 1),
+        allowance: random.near(2 * documents),
+    }
+}
+
 /// Mostly one to three terms; at times none, up to eight, or more.
-fn conjunction(random: &mut Random, terms: u32) -> Vec<u32> {
+fn chosen(random: &mut Random, terms: u32) -> Vec<u32> {
     let size = match random.below(8) {
         0 => random.below(11),
         _ => 1 + random.below(3),

@@ -39,13 +39,18 @@ fn ends(span: Span) -> (u32, u32) {
     }
 }
 
+/// The terms, and behind them numbers that are no terms: those past the length are not to be looked at.
+fn with_more(terms: &[u32]) -> Vec<u32> {
+    [terms, &[u32::MAX; 8]].concat()
+}
+
 /// Puts the question; the answer is the number that the function answers. The caller keeps what `Form::Opened` says.
 pub fn ask(bytes: &[u8], form: Form, question: &Question, scratch: &mut Scratch, out: &mut [u32; 3]) -> u32 {
     match question {
         Question::List { .. } | Question::Conjunction { .. } => {
             pairs(bytes, form, question, &mut scratch.first, &mut out[0])
         }
-        Question::Read | Question::Greedy { .. } | Question::Probing { .. } => {
+        Question::Read | Question::Greedy { .. } | Question::Probing { .. } | Question::Weighted { .. } => {
             two_slices(bytes, form, question, scratch, out)
         }
         _ => numbers(bytes, form, question, out),
@@ -97,8 +102,8 @@ fn pairs(bytes: &[u8], form: Form, question: &Question, answers: &mut [u32], lis
             }
             Question::Conjunction { terms } => {
                 let ask = function!(form; masuvelior_conjunction, masuvelior_opened_conjunction);
-                let (chosen, size) = (terms.as_ptr(), terms.len());
-                ask(archive, length, chosen, size, first, first_length, listed)
+                let chosen = with_more(terms);
+                ask(archive, length, chosen.as_ptr(), terms.len(), first, first_length, listed)
             }
             _ => unreachable!("not of pairs: {question:?}"),
         }
@@ -112,20 +117,26 @@ fn two_slices(bytes: &[u8], form: Form, question: &Question, scratch: &mut Scrat
     let [x, y, z] = out;
     // SAFETY: POINTERS, WRITTEN and CONST by the references; OPENED is kept by our caller.
     unsafe {
-        match *question {
+        match question {
             Question::Read => {
                 let ask = function!(form; masuvelior_read, masuvelior_opened_read);
                 ask(archive, length, first, first_length, second, second_length, x, y, z)
             }
             Question::Greedy { span, k, allowance } => {
-                let ask = function!(form, span; masuvelior_greedy_entries, masuvelior_opened_greedy_entries, masuvelior_greedy_terms, masuvelior_opened_greedy_terms);
-                let (a, b) = ends(span);
-                ask(archive, length, a, b, k, allowance, first, first_length, second, second_length, x, y, z)
+                let ask = function!(form, *span; masuvelior_greedy_entries, masuvelior_opened_greedy_entries, masuvelior_greedy_terms, masuvelior_opened_greedy_terms);
+                let (a, b) = ends(*span);
+                ask(archive, length, a, b, *k, *allowance, first, first_length, second, second_length, x, y, z)
             }
             Question::Probing { span, k } => {
-                let ask = function!(form, span; masuvelior_probing_entries, masuvelior_opened_probing_entries, masuvelior_probing_terms, masuvelior_opened_probing_terms);
-                let (a, b) = ends(span);
-                ask(archive, length, a, b, k, first, first_length, second, second_length, x)
+                let ask = function!(form, *span; masuvelior_probing_entries, masuvelior_opened_probing_entries, masuvelior_probing_terms, masuvelior_opened_probing_terms);
+                let (a, b) = ends(*span);
+                ask(archive, length, a, b, *k, first, first_length, second, second_length, x)
+            }
+            Question::Weighted { terms, k, allowance } => {
+                let ask = function!(form; masuvelior_weighted, masuvelior_opened_weighted);
+                let more = with_more(terms);
+                let (chosen, size) = (more.as_ptr(), terms.len());
+                ask(archive, length, chosen, size, *k, *allowance, first, first_length, second, second_length, x, y, z)
             }
             _ => unreachable!("not of two slices: {question:?}"),
         }

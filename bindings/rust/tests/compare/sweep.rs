@@ -7,7 +7,7 @@ use crate::{quick, rounds};
 use masuvelior::{Archive, Refusal};
 
 /// Opens the model's archive of a library at some place of a larger slice, so that the bytes are aligned in any way.
-fn with_archive(random: &mut Random, library: &Library, then: impl FnOnce(&mut Random, &Archive)) {
+pub fn with_archive(random: &mut Random, library: &Library, then: impl FnOnce(&mut Random, &Archive)) {
     let before = random.below(9) as usize;
     let mut bytes = vec![0xEE; before];
     bytes.extend(archive(library));
@@ -40,15 +40,24 @@ fn every_question(library: &Library) -> Vec<Question> {
         for last in around(terms) {
             all.push(Question::RangeOfTerms { first, last });
             of_range(Span::Terms(first, last), library, &mut all);
-            let two = vec![first, last];
-            all.push(Question::Conjunction { terms: two });
+            of_terms(&[first, last], library, &mut all);
         }
     }
     for size in 0..10 {
-        let terms = (0..size).map(|i| i % terms).collect();
-        all.push(Question::Conjunction { terms });
+        let terms: Vec<u32> = (0..size).map(|i| i % terms).collect();
+        of_terms(&terms, library, &mut all);
     }
     all
+}
+
+/// Every question of some terms.
+fn of_terms(terms: &[u32], library: &Library, all: &mut Vec<Question>) {
+    all.push(Question::Conjunction { terms: terms.to_vec() });
+    for k in [0, 1, 2, 4, library.documents, u32::MAX] {
+        for allowance in [0, 1, 2, 3, 5, 9, u32::MAX] {
+            all.push(Question::Weighted { terms: terms.to_vec(), k, allowance });
+        }
+    }
 }
 
 /// Every question of a range.

@@ -1,0 +1,87 @@
+//! The weighted top-k search.
+use crate::archive::Archive;
+use crate::argument::Argument;
+use crate::pairs::{numbers, room, Scored};
+use crate::refusal::{outcome, Refusal};
+use crate::sys;
+use crate::top_k::Ended;
+
+/// Weighted top-k: the first k documents by larger score, equal scores by lower number, where rare terms weigh more.
+impl Archive<'_> {
+    /// The documents with an entry under one or more of one to eight terms, by their scores. A term that df different documents have weighs
+    /// the largest g with 2^g × df^4 at most N^4, which is 0 to 48; a term without entries weighs 0. A document's score is the sum of the
+    /// term's weight times the document's count under it, for each term as given: a term given twice counts twice. Documents of score 0 are
+    /// listed too. The search may open so many nodes as the allowance says.
+    ///
+    /// Cost: for the weights, up to 4 ranks for each node where a term has two entries or more, at most h for each document of the term. Then 2
+    /// ranks, and 2 for each term with an entry there, for each node opened and for each node above it that is not above the one opened
+    /// before, at most h in all; for each node opened or document named a step in a heap of the waiting nodes; and 4 × N numbers cleared.
+    ///
+    /// ```
+    /// use masuvelior::{write, Archive, Ended};
+    ///
+    /// // Term 0 is in each of the four documents, and weighs 0. Term 1 is in two of them, and weighs 4: 2^4 × 2^4 is 4^4.
+    /// let bytes = write(&[0, 0, 0, 1, 2, 3, 3, 2, 2], &[6, 3], 4)?;
+    /// let archive = Archive::open(&bytes)?;
+    ///
+    /// let (documents, ended) = archive.weighted(&[0, 1], 3, 100)?;
+    /// assert_eq!(documents, [(2, 8), (3, 4), (0, 0)]);
+    /// assert_eq!((documents[0].document, documents[0].score), (2, 8));
+    /// assert_eq!(ended, Ended::Done { openings: 3 });
+    ///
+    /// // With two openings it can name those that have term 1.
+    /// let (documents, ended) = archive.weighted(&[0, 1], 3, 2)?;
+    /// assert_eq!(documents, [(2, 8), (3, 4)]);
+    /// assert_eq!(ended, Ended::Spent { allowance: 2 });
+    /// # Ok::<(), masuvelior::Refusal>(())
+    /// ```
+    ///
+    /// # Errors
+    /// 10 for no term or more than eight; 11 where a term is W or more.
+    pub fn weighted(&self, terms: &[u32], k: u32, allowance: u32) -> Result<(Vec<Scored>, Ended), Refusal> {
+        let mut answers = room(self.answer_length(k));
+        let mut work = vec![0; self.work_length()];
+        let (found, ended) = self.weighted_into(terms, k, allowance, &mut answers, &mut work)?;
+        let listed = found.len();
+        answers.truncate(listed);
+        Ok((answers, ended))
+    }
+
+    /// The same in slices of the caller's, as in [`greedy_into`](Archive::greedy_into).
+    ///
+    /// # Errors
+    /// As [`weighted`](Archive::weighted); 12 where `answers` has under [`answer_length(k)`](Archive::answer_length) pairs; 13 where `work`
+    /// is under [`work_length`](Archive::work_length).
+    pub fn weighted_into<'b>(
+        &self,
+        terms: &[u32],
+        k: u32,
+        allowance: u32,
+        answers: &'b mut [Scored],
+        work: &mut [u32],
+    ) -> Result<(&'b [Scored], Ended), Refusal> {
+        let (archive, archive_length) = self.lent();
+        let (pairs, pairs_length) = numbers(answers);
+        let (mut listed, mut spent, mut number) = (0, 0, 0);
+        // SAFETY: POINTERS, WRITTEN and CONST by the references; OPENED by `Archive::open`, the only maker of an `Archive`.
+        let answer = unsafe {
+            sys::masuvelior_opened_weighted(
+                archive,
+                archive_length,
+                terms.as_ptr(),
+                terms.len(),
+                k,
+                allowance,
+                pairs,
+                pairs_length,
+                work.as_mut_ptr(),
+                work.len(),
+                &mut listed,
+                &mut spent,
+                &mut number,
+            )
+        };
+        outcome(answer, ()).map_err(|refusal| refusal.about(|| Argument::Term))?;
+        Ok((&answers[..listed as usize], Ended::of(spent, number)))
+    }
+}

@@ -1,0 +1,57 @@
+//! The model of the weighted search, after `docs/FORMAT.md`: weights by trying, scores by counting, and all nodes one after the other.
+use crate::library::{height, Library};
+use crate::questions::{counts, part, Pairs, Span};
+
+/// What a term weighs that df of the documents have: the largest g with 2^g × df^4 at most N^4, or 0 where df is 0.
+pub fn weight(documents: u32, df: u32) -> u32 {
+    if df == 0 {
+        return 0;
+    }
+    let fourth = |x: u32| u128::from(x).pow(4);
+    let fits = |g: &u32| (1 << g) * fourth(df) <= fourth(documents);
+    (0..64).filter(fits).max().unwrap()
+}
+
+/// Of each number below 2^h, its score under some terms, and how many entries it has there.
+pub struct Weighed(Vec<(u32, u32)>);
+
+/// Weighs some terms, or refuses them.
+pub fn weigh(library: &Library, terms: &[u32]) -> Result<Weighed, u32> {
+    if terms.is_empty() || terms.len() > 8 {
+        return Err(10);
+    }
+    let size = 1 << height(library.documents);
+    let mut weighed = vec![(0, 0); size as usize];
+    for term in terms {
+        let counts = counts(part(library, Span::Terms(*term, *term))?, size);
+        let df = counts.iter().filter(|count| **count > 0).count();
+        let weight = weight(library.documents, df as u32);
+        for (of, count) in weighed.iter_mut().zip(counts) {
+            *of = (of.0 + weight * count, of.1 + count);
+        }
+    }
+    Ok(Weighed(weighed))
+}
+
+impl Weighed {
+    /// Every document with an entry once, ascending, with its score.
+    pub fn listing(&self) -> Pairs {
+        let found = (0..).zip(&self.0).filter(|(_, of)| of.1 > 0);
+        found.map(|(document, of)| (document, of.0)).collect()
+    }
+
+    /// The nodes of two or more numbers with an entry: start and score of each.
+    pub fn nodes(&self) -> Pairs {
+        let mut nodes = Vec::new();
+        let mut size = self.0.len();
+        while size > 1 {
+            for (i, node) in self.0.chunks(size).enumerate() {
+                if node.iter().any(|of| of.1 > 0) {
+                    nodes.push(((i * size) as u32, node.iter().map(|of| of.0).sum()));
+                }
+            }
+            size /= 2;
+        }
+        nodes
+    }
+}
