@@ -14,14 +14,14 @@ struct Library {
 // Each operation takes its own of these.
 struct Query {
   size_t a, b, x;        // a range or a place, and a document or a rank
-  uint32_t k, allowance; // top-k
-  uint32_t chosen[8];    // conjunction: the first `size` are the terms
+  uint32_t k, allowance; // top-k, weighted too
+  uint32_t chosen[8];    // conjunction, weighted: the first `size` are the terms
   uint32_t size;
 };
 
-enum Op { OPEN, WRITE, READ, ACCESS, RANK, SELECT, QUANTILE, LIST, CONJUNCTION, GREEDY, PROBING, OPS };
+enum Op { OPEN, WRITE, READ, ACCESS, RANK, SELECT, QUANTILE, LIST, CONJUNCTION, GREEDY, PROBING, WEIGHTED, OPS };
 
-// The low 32 bits of a result are compared: a number, or how many pairs of document and count were written.
+// The low 32 bits of a result are compared: a number, or how many pairs of document and count (weighted: score) were written.
 typedef uint64_t op_fn(void *index, const Query &q, uint32_t *answers);
 
 struct Contender {

@@ -85,4 +85,10 @@ size_t F(probing)(LEVELS_UNUSED, size_t, size_t a, size_t b, u32 k, u32 *answers
   answered(ASK(probing_entries)(bytes, len, (u32)a, (u32)b, k, answers, answers_len, work, work_len, &listed));
   return listed;
 }
+
+uint64_t F(weighted)(LEVELS_UNUSED, size_t, size_t, const u32 *chosen, u32 size, u32 k, u32 allowance, u32 *answers, size_t answers_len, u32 *work, size_t work_len) {
+  u32 listed = 0, spent = 0, number = 0;
+  answered(ASK(weighted)(bytes, len, chosen, size, k, allowance, answers, answers_len, work, work_len, &listed, &spent, &number));
+  return (uint64_t)spent << 63 | (uint64_t)number << 32 | listed;
+}
 }

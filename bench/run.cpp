@@ -3,6 +3,7 @@
 //   run time SECONDS CSV OPENINGS [FILTER]
 #include "abi.h"
 #include "contender.h"
+#include "definition.h"
 #include <algorithm>
 #include <math.h>
 #include <sched.h>
@@ -16,8 +17,8 @@
 Contender scan_contender();
 extern "C" void sdsl_plain(Contender *), sdsl_popcnt(Contender *);
 
-#define PEER(p) extern "C" { open_fn p##_open; write_fn p##_write; read_fn p##_read; access_fn p##_access; rank_fn p##_rank; select_fn p##_select; quantile_fn p##_quantile; list_fn p##_list; conjunction_fn p##_conjunction; greedy_fn p##_greedy; probing_fn p##_probing; } \
-  constexpr Operations p = {p##_open, p##_write, p##_read, p##_access, p##_rank, p##_select, p##_quantile, p##_list, p##_conjunction, p##_greedy, p##_probing};
+#define PEER(p) extern "C" { open_fn p##_open; write_fn p##_write; read_fn p##_read; access_fn p##_access; rank_fn p##_rank; select_fn p##_select; quantile_fn p##_quantile; list_fn p##_list; conjunction_fn p##_conjunction; greedy_fn p##_greedy; probing_fn p##_probing; weighted_fn p##_weighted; } \
+  constexpr Operations p = {p##_open, p##_write, p##_read, p##_access, p##_rank, p##_select, p##_quantile, p##_list, p##_conjunction, p##_greedy, p##_probing, p##_weighted};
 
 PEER(tight_nopop)
 PEER(plain_nopop)
@@ -28,7 +29,6 @@ PEER(opened)
 PEER(checked)
 
 namespace {
-typedef std::vector<uint32_t> Numbers;
 const uint32_t NO_BOUND = 0xffffffff;
 
 void fail(const char *format, const char *a, const char *b) {
@@ -104,8 +104,12 @@ template <const Operations &F> struct Tree {
     Archive &x = *(Archive *)p;
     return F.probing(AT(x), x.documents, q.a, q.b, q.k, answers, 2 * x.documents, x.work.data(), x.work.size());
   }
+  static uint64_t weighted(void *p, const Query &q, uint32_t *answers) {
+    Archive &x = *(Archive *)p;
+    return F.weighted(AT(x), x.documents, x.terms, q.chosen, q.size, q.k, q.allowance, answers, 2 * x.documents, x.work.data(), x.work.size());
+  }
   static Contender contender(const char *name) {
-    return {name, build, drop, bytes, {open, write, read, access, rank, select, quantile, list, conjunction, greedy, probing}};
+    return {name, build, drop, bytes, {open, write, read, access, rank, select, quantile, list, conjunction, greedy, probing, weighted}};
   }
 };
 
@@ -179,6 +183,21 @@ Numbers even_lengths(size_t n, size_t terms) {
   return lengths;
 }
 
+// Rare and frequent terms: the length of term t is in proportion to 1 / (t + 1), rounded, and may be 0.
+Numbers mixed_lengths(size_t n, size_t terms) {
+  Numbers lengths(terms);
+  double sum = 0, upto = 0;
+  for (size_t t = 0; t < terms; t++) sum += 1.0 / (double)(t + 1);
+  uint32_t start = 0;
+  for (size_t t = 0; t < terms; t++) {
+    upto += 1.0 / (double)(t + 1);
+    uint32_t end = t + 1 == terms ? (uint32_t)n : (uint32_t)((double)n * upto / sum);
+    lengths[t] = end - start;
+    start = end;
+  }
+  return lengths;
+}
+
 struct Data {
   Numbers entries, lengths, starts;
   uint32_t documents;
@@ -196,7 +215,7 @@ struct Data {
 
 // ---- verification
 
-const char *NAMES[OPS] = {"open", "write", "read", "access", "rank", "select", "quantile", "list", "conjunction", "greedy", "probing"};
+const char *NAMES[OPS] = {"open", "write", "read", "access", "rank", "select", "quantile", "list", "conjunction", "greedy", "probing", "weighted"};
 size_t comparisons = 0;
 
 void expect(bool right, const Contender &c, const char *what) {
@@ -204,24 +223,13 @@ void expect(bool right, const Contender &c, const char *what) {
   if (!right) fail("%s: wrong %s", c.name, what);
 }
 
-// Nodes of two or more numbers that a front part with the last pair d, c needs, by the definition in docs/FORMAT.md.
-uint64_t need_of(const Data &data, const Query &q, uint32_t d, uint32_t c) {
-  uint32_t height = 0, needed = 0;
-  while (1u << height < data.documents) height++;
-  for (uint32_t j = 0; j < height; j++) {
-    Numbers counts(1u << j);
-    for (size_t i = q.a; i < q.b; i++) counts[data.entries[i] >> (height - j)]++;
-    for (uint32_t v = 0; v < counts.size(); v++) needed += counts[v] > c || (counts[v] == c && v << (height - j) <= d);
-  }
-  return needed;
-}
-
-// What greedy top-k answers, from the full list.
-uint64_t greedy_answer(const Data &data, const Query &q, const uint32_t *full, size_t size) {
-  for (size_t m = size;; m--) {
-    uint64_t need = m ? need_of(data, q, full[2 * m - 2], full[2 * m - 1]) : 0;
-    if (need <= q.allowance) return m == size ? need << 32 | m : (uint64_t)1 << 63 | (uint64_t)q.allowance << 32 | m;
-  }
+// What a question adds up. The score of greedy top-k is the count.
+Sums sums_of(const Data &data, Op op, const Query &q) {
+  Sums s(data.documents);
+  if (op == GREEDY) s.add(data.entries, q.a, q.b, false);
+  else
+    for (size_t i = 0; i < q.size; i++) s.add(data.entries, data.starts[q.chosen[i]], data.starts[q.chosen[i] + 1], true);
+  return s;
 }
 
 Query random_query(const Data &data, Op op, size_t turn) {
@@ -239,6 +247,15 @@ Query random_query(const Data &data, Op op, size_t turn) {
     q.size = 1 + below(8);
     for (size_t i = 0; i < q.size; i++) q.chosen[i] = below(data.lengths.size());
   }
+  // Any terms, those of random entries, and some again. What stands behind the terms is none.
+  if (op == WEIGHTED) {
+    q.size = 1 + below(8);
+    for (size_t i = 0; i < 8; i++) {
+      size_t of_entry = (size_t)(std::upper_bound(data.starts.begin(), data.starts.end(), below(n)) - data.starts.begin()) - 1;
+      q.chosen[i] = i >= q.size ? NO_BOUND : i && below(6) == 0 ? q.chosen[below(i)] : (uint32_t)(turn % 3 ? of_entry : below(data.lengths.size()));
+    }
+    if (turn % 7 == 3) q.k = NO_BOUND;
+  }
   if (op == QUANTILE || op == LIST || op == GREEDY || op == PROBING) {
     q.a = turn % 4 ? below(n) : 0;
     q.b = turn % 4 == 0 ? n : turn % 4 == 1 ? std::min<size_t>(n, q.a + 1 + below(20)) : q.a + 1 + below(n - q.a);
@@ -246,6 +263,28 @@ Query random_query(const Data &data, Op op, size_t turn) {
     q.x = below(q.b - q.a);
   }
   return q;
+}
+
+// Under an allowance a search answers what the definition says, whatever the lent slices held; it writes its pairs and 4 * N times 0, and no more.
+void verify_bounded(const std::vector<Contender> &all, const Data &data, Op op, Query q, const Numbers &right, size_t size) {
+  const uint32_t before = 0xa5a5a5a5;
+  std::vector<Inner> nodes = sums_of(data, op, q).inner_nodes();
+  uint32_t need = size ? (uint32_t)need_of(nodes, right[2 * size - 2], right[2 * size - 1]) : 0;
+  for (uint32_t allowance : {NO_BOUND, below(60), 0u, need, need - (need != 0)}) {
+    q.allowance = allowance;
+    uint64_t answer = bounded_answer(nodes, allowance, right.data(), size);
+    Numbers pairs(right.size(), before), cleared(4 * data.documents + 4, before);
+    std::copy(right.begin(), right.begin() + 2 * (uint32_t)answer, pairs.begin());
+    std::fill(cleared.begin(), cleared.begin() + 4 * data.documents, 0);
+    for (size_t c = 1; c < all.size(); c++) {
+      if (!all[c].ops[op] || !is_tree(all[c])) continue;
+      Numbers got(right.size(), before), &work = ((Archive *)data.indexes[c])->work;
+      std::fill(work.begin(), work.end(), before);
+      expect(all[c].ops[op](data.indexes[c], q, got.data()) == answer, all[c], "search with an allowance");
+      expect(got == pairs, all[c], "pairs of a search with an allowance");
+      expect(work == cleared, all[c], "work slice after a search");
+    }
+  }
 }
 
 void verify_op(const std::vector<Contender> &all, const Data &data, Op op, size_t turn) {
@@ -258,17 +297,11 @@ void verify_op(const std::vector<Contender> &all, const Data &data, Op op, size_
     expect((uint32_t)r == (uint32_t)expected, all[c], NAMES[op]);
     if (op >= LIST) expect(std::equal(right.begin(), right.begin() + 2 * (uint32_t)expected, got.begin()), all[c], NAMES[op]);
   }
-  if (op != GREEDY || turn % 2) return;
-  Query bounded = q;
-  bounded.allowance = turn % 4 ? below(60) : NO_BOUND;
-  uint64_t answer = greedy_answer(data, bounded, right.data(), (size_t)expected);
-  for (size_t c = 1; c < all.size(); c++) {
-    if (!all[c].ops[op] || !is_tree(all[c])) continue;
-    expect(all[c].ops[op](data.indexes[c], bounded, got.data()) == answer, all[c], "greedy with an allowance");
-    expect(std::equal(got.begin(), got.begin() + 2 * (uint32_t)answer, right.begin()), all[c], "greedy with an allowance");
-    const Numbers &work = ((Archive *)data.indexes[c])->work;
-    expect(std::count(work.begin(), work.begin() + 4 * data.documents, 0u) == 4 * (long)data.documents, all[c], "work slice after greedy");
+  if (op == WEIGHTED) {
+    Numbers full = sums_of(data, op, q).list(q.k);
+    expect(expected == full.size() / 2 && std::equal(full.begin(), full.end(), right.begin()), all[SCAN], NAMES[op]);
   }
+  if ((op == GREEDY || op == WEIGHTED) && turn % 2 == 0) verify_bounded(all, data, op, q, right, (size_t)expected);
 }
 
 // The archives are the same bytes, give the library back, and with a bit or a byte changed each contender refuses them by the same number.
@@ -293,8 +326,8 @@ void verify_archives(const std::vector<Contender> &all, const Data &data) {
   }
 }
 
-void verify_one(const std::vector<Contender> &all, size_t n, uint32_t documents, size_t terms, Kind kind, size_t turns) {
-  Data data(all, entries_of(n, documents, kind), even_lengths(n, terms), documents);
+void verify_one(const std::vector<Contender> &all, size_t n, uint32_t documents, const Numbers &lengths, Kind kind, size_t turns) {
+  Data data(all, entries_of(n, documents, kind), lengths, documents);
   for (size_t turn = 0; turn < turns; turn++) {
     verify_archives(all, data);
     for (int op = ACCESS; op < OPS; op++) verify_op(all, data, (Op)op, turn);
@@ -315,15 +348,20 @@ void verify_small(const std::vector<Contender> &all) {
 }
 
 void verify(const std::vector<Contender> &all) {
+  auto lengths = [](size_t n, size_t terms) { return below(2) ? even_lengths(n, terms) : mixed_lengths(n, terms); };
   verify_small(all);
   for (size_t n : {1, 2, 63, 64, 65, 511, 512, 513, 1000, 1024, 1025, 4096, 5000})
     for (uint32_t documents : {1, 2, 3, 7, 64, 100, 1000, 4096})
-      for (Kind kind : {UNIFORM, SKEWED, EQUAL}) verify_one(all, n, documents, 1 + below(40), kind, 12);
-  for (int turn = 0; turn < 60; turn++) verify_one(all, 1 + below(3000), 1 + below(below(2) ? 4096 : 60), 1 + below(200), turn % 2 ? SKEWED : UNIFORM, 16);
+      for (Kind kind : {UNIFORM, SKEWED, EQUAL}) verify_one(all, n, documents, lengths(n, 1 + below(40)), kind, 12);
+  for (int turn = 0; turn < 60; turn++) {
+    size_t n = 1 + below(3000);
+    verify_one(all, n, 1 + below(below(2) ? 4096 : 60), lengths(n, 1 + below(200)), turn % 2 ? SKEWED : UNIFORM, 16);
+  }
   for (Kind kind : {UNIFORM, SKEWED}) {
-    verify_one(all, 65535, 4096, 4096, kind, 32);
-    verify_one(all, 65535, 4096, 16, kind, 16);
-    verify_one(all, 65024, 4000, 100, kind, 16);
+    verify_one(all, 65535, 4096, even_lengths(65535, 4096), kind, 32);
+    verify_one(all, 65535, 4096, mixed_lengths(65535, 4096), kind, 32);
+    verify_one(all, 65535, 4096, even_lengths(65535, 16), kind, 16);
+    verify_one(all, 65024, 4000, even_lengths(65024, 100), kind, 16);
   }
   printf("verified: %zu comparisons, %zu contenders\n", comparisons, all.size());
 }
@@ -374,8 +412,8 @@ struct Cell {
     return now() - start;
   }
 
-  // So many queries that the tight peer takes about 0.4 ms, unless another takes very long; and so many rounds that the time is used up.
-  void plan(double seconds) {
+  // So many queries that the tight peer takes about 0.4 ms, unless another takes very long, but no fewer than `least`; and so many rounds that the time is used up.
+  void plan(double seconds, size_t least) {
     answers.resize(2 * 4096 + 2);
     times.assign(all.size(), {});
     uint64_t sum = 0, first = 0;
@@ -383,7 +421,7 @@ struct Cell {
       double longest = 0, reference = one(TIGHT, queries.data(), count, &sum);
       for (size_t c = 0; c < all.size(); c++)
         if (all[c].ops[op]) longest = std::max(longest, one(c, queries.data(), count, &sum));
-      if (reference >= 0.4e6 || longest >= 10e6) break;
+      if (count >= least && (reference >= 0.4e6 || longest >= 10e6)) break;
     }
     double round = 0;
     for (size_t c = 0; c < all.size(); c++) {
@@ -416,7 +454,8 @@ struct Cell {
   }
 };
 
-const char *RANGES[3] = {"all", "1/16", "term"};
+const char *RANGES[4] = {"all", "1/16", "term", "mixed"};
+const int MIXED = 3;
 const size_t ENTRIES = 65535;
 const uint32_t DOCUMENTS = 4096;
 
@@ -424,6 +463,7 @@ struct Set {
   std::string name;
   Data *terms;   // 4,096 terms of 16 entries
   Data *volumes; // 16 terms of a sixteenth
+  Data *mixed;   // 4,096 terms, rare and frequent
   std::vector<Cell> cells;
 };
 
@@ -443,8 +483,18 @@ Query range_query(const Data &data, int range) {
   return q;
 }
 
+// One term of each band of ranks, from the most frequent to the rarest: term i of s has the rank W^((i + u) / s), u random below 1.
+Query mixed_query(const Data &data, uint32_t size) {
+  Query q = Query();
+  q.allowance = NO_BOUND;
+  q.size = size;
+  double terms = (double)data.lengths.size();
+  for (uint32_t i = 0; i < size; i++) q.chosen[i] = (uint32_t)(pow(terms, (i + (double)(next() >> 11) / 9007199254740992.0) / size) - 1);
+  return q;
+}
+
 template <class Make> void add(Set &set, const std::vector<Contender> &all, const char *filter, double seconds, Op op, int range, uint32_t k, uint32_t size, Make make) {
-  const Data &data = op == CONJUNCTION && range == 1 ? *set.volumes : *set.terms;
+  const Data &data = range == MIXED ? *set.mixed : op == CONJUNCTION && range == 1 ? *set.volumes : *set.terms;
   std::string name = NAMES[op];
   if (size) name += " of " + std::to_string(size);
   if (range >= 0) name += std::string(" ") + RANGES[range];
@@ -465,7 +515,8 @@ template <class Make> void add(Set &set, const std::vector<Contender> &all, cons
     c.indexes.push_back(data.indexes[TIGHT]);
   }
   for (size_t i = 0; i < QUERIES; i++) c.queries.push_back(make(data));
-  c.plan(seconds);
+  // Questions of mixed terms differ much in cost: a batch has several.
+  c.plan(seconds, range == MIXED ? 16 : 1);
   set.cells.push_back(c);
 }
 
@@ -501,6 +552,13 @@ void add_cells(Set &set, const std::vector<Contender> &all, const char *filter, 
     for (int range = 0; range < 3; range++)
       for (uint32_t k : {10u, 100u, DOCUMENTS})
         cell(op, range, k, 0, [=](const Data &d) { Query q = range_query(d, range); q.k = k; return q; });
+  for (uint32_t size : {2, 8}) {
+    uint64_t from = seed;
+    for (uint32_t k : {10u, DOCUMENTS}) {
+      seed = from; // the same terms for every k
+      cell(WEIGHTED, MIXED, k, size, [=](const Data &d) { Query q = mixed_query(d, size); q.k = k; return q; });
+    }
+  }
 }
 
 void print_set(const Set &set, const std::vector<Contender> &all) {
@@ -561,7 +619,8 @@ void time_all(const std::vector<Contender> &all, double seconds, const char *csv
   std::vector<Set> sets;
   for (Kind kind : {UNIFORM, SKEWED}) {
     Numbers entries = entries_of(ENTRIES, DOCUMENTS, kind);
-    sets.push_back({kind == UNIFORM ? "uniform" : "skewed", new Data(all, entries, even_lengths(ENTRIES, 4096), DOCUMENTS), new Data(all, entries, even_lengths(ENTRIES, 16), DOCUMENTS), {}});
+    auto data = [&](const Numbers &lengths) { return new Data(all, entries, lengths, DOCUMENTS); };
+    sets.push_back({kind == UNIFORM ? "uniform" : "skewed", data(even_lengths(ENTRIES, 4096)), data(even_lengths(ENTRIES, 16)), data(mixed_lengths(ENTRIES, 4096)), {}});
     add_cells(sets.back(), all, filter, seconds);
   }
   for (size_t p = 0; p < PASSES; p++)

@@ -13,8 +13,10 @@ mkdir -p build
 (cd "$root" && rt staticlib masuvelior) >build/staticlib.log 2>&1 || { tail build/staticlib.log; exit 1; }
 objects=
 peer() { # NAME TIGHT FLAGS
-  $CXX $flags -DPEER="$1" -DTIGHT="$2" $3 -c peer.cpp -o "build/$1.o"
-  objects="$objects build/$1.o"
+  for part in peer weighted; do
+    $CXX $flags -DPEER="$1" -DTIGHT="$2" $3 -c $part.cpp -o "build/$1_$part.o"
+    objects="$objects build/$1_$part.o"
+  done
 }
 ours() { # NAME CHECKED
   $CXX $flags -DOURS="$1" -DCHECKED="$2" -c ours.cpp -o "build/$1.o"

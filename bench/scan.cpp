@@ -9,8 +9,9 @@
 namespace {
 struct Scan {
   std::vector<uint16_t> entries, sorted;
-  std::vector<uint32_t> starts, counts, keys;
-  uint32_t documents;
+  std::vector<uint32_t> starts, counts, keys, marks, scores, touched;
+  std::vector<uint64_t> scored;
+  uint32_t documents, mark;
 };
 
 void *build(const Library &l) {
@@ -20,6 +21,11 @@ void *build(const Library &l) {
   x->sorted.resize(l.documents);
   x->counts.resize(l.documents);
   x->keys.resize(l.documents + 1);
+  x->marks.resize(l.documents);
+  x->scores.resize(l.documents);
+  x->touched.resize(l.documents + 1);
+  x->scored.resize(l.documents);
+  x->mark = 0;
   x->starts.assign(1, 0);
   for (size_t t = 0; t < l.terms; t++) x->starts.push_back(x->starts.back() + l.lengths[t]);
   return x;
@@ -130,8 +136,53 @@ uint64_t top_k(void *p, const Query &q, uint32_t *answers) {
   }
   return k;
 }
+
+// The largest g with df^4 at most N^4 / 2^g.
+uint32_t weight_of(uint64_t documents, uint64_t df) {
+  uint64_t all = documents * documents * documents * documents, some = df * df * df * df;
+  uint32_t g = 0;
+  while (df && some <= all >> (g + 1)) g++;
+  return g;
+}
+
+// Two passes over each term's entries: the first marks its documents, which gives the weight; the second adds it to their scores.
+// A document that is met in the question for the first time has no mark from the question's first one on, and joins the list of those.
+uint64_t weighted(void *p, const Query &q, uint32_t *answers) {
+  Scan &x = *(Scan *)p;
+  uint32_t *marks = x.marks.data(), *scores = x.scores.data(), *touched = x.touched.data();
+  uint64_t *scored = x.scored.data();
+  if (x.mark > 0xffffff00) {
+    std::fill(x.marks.begin(), x.marks.end(), 0);
+    x.mark = 0;
+  }
+  uint32_t first = x.mark + 1, found = 0;
+  for (size_t t = 0; t < q.size; t++) {
+    const uint16_t *a = x.entries.data() + x.starts[q.chosen[t]], *b = x.entries.data() + x.starts[q.chosen[t] + 1];
+    uint32_t mark = ++x.mark, df = 0;
+    for (const uint16_t *e = a; e < b; e++) {
+      touched[found] = *e;
+      found += marks[*e] < first;
+      df += marks[*e] != mark;
+      marks[*e] = mark;
+    }
+    uint32_t weight = weight_of(x.documents, df);
+    for (const uint16_t *e = a; e < b; e++) scores[*e] += weight;
+  }
+  for (size_t i = 0; i < found; i++) {
+    scored[i] = (uint64_t)scores[touched[i]] << 16 | (65535 - touched[i]);
+    scores[touched[i]] = 0;
+  }
+  size_t k = std::min<size_t>(q.k, found);
+  if (4 * k < found) std::partial_sort(scored, scored + k, scored + found, std::greater<uint64_t>());
+  else std::sort(scored, scored + found, std::greater<uint64_t>());
+  for (size_t i = 0; i < k; i++) {
+    answers[2 * i] = 65535 - (uint32_t)(scored[i] & 65535);
+    answers[2 * i + 1] = (uint32_t)(scored[i] >> 16);
+  }
+  return k;
+}
 }
 
 Contender scan_contender() {
-  return {"scan", build, drop, bytes, {nullptr, nullptr, nullptr, access, rank, select, quantile, list, conjunction, top_k, top_k}};
+  return {"scan", build, drop, bytes, {nullptr, nullptr, nullptr, access, rank, select, quantile, list, conjunction, top_k, top_k, weighted}};
 }

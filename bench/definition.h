@@ -1,0 +1,83 @@
+// What the searches answer by the definitions in docs/FORMAT.md: from the list alone, sharing nothing with a contender.
+#pragma once
+#include <algorithm>
+#include <stddef.h>
+#include <stdint.h>
+#include <utility>
+#include <vector>
+
+typedef std::vector<uint32_t> Numbers;
+
+// The largest g with 2^g * df^4 at most N^4, by trying each; 0 without entries.
+inline uint32_t weight_by_trying(uint32_t documents, uint32_t df) {
+  typedef unsigned __int128 Wide;
+  Wide all = (Wide)documents * documents * documents * documents, some = (Wide)df * df * df * df;
+  uint32_t weight = 0;
+  for (uint32_t g = 0; df && g <= 64; g++)
+    if (some << g <= all) weight = g;
+  return weight;
+}
+
+// A node of two or more numbers that lives.
+struct Inner {
+  uint32_t start, score;
+};
+
+// For each document its entries, and the score by which it is ranked.
+struct Sums {
+  uint32_t documents;
+  Numbers entries, scores;
+  Sums(uint32_t N) : documents(N), entries(N), scores(N) {}
+
+  // The entries a to b: each adds 1 to the score, or the weight of a term that has these.
+  void add(const Numbers &list, size_t a, size_t b, bool term) {
+    Numbers counts(documents);
+    for (size_t i = a; i < b; i++) counts[list[i]]++;
+    uint32_t df = documents - (uint32_t)std::count(counts.begin(), counts.end(), 0u), weight = term ? weight_by_trying(documents, df) : 1;
+    for (uint32_t d = 0; d < documents; d++) {
+      entries[d] += counts[d];
+      scores[d] += weight * counts[d];
+    }
+  }
+
+  // The full list: the first k of the documents with an entry, by larger score and then lower number.
+  Numbers list(uint32_t k) const {
+    std::vector<std::pair<uint32_t, uint32_t>> ranking; // the score reversed, and the document
+    for (uint32_t d = 0; d < documents; d++)
+      if (entries[d]) ranking.push_back({~scores[d], d});
+    std::sort(ranking.begin(), ranking.end());
+    if (ranking.size() > k) ranking.resize(k);
+    Numbers pairs;
+    for (auto &r : ranking) pairs.insert(pairs.end(), {r.second, ~r.first});
+    return pairs;
+  }
+
+  std::vector<Inner> inner_nodes() const {
+    std::vector<Inner> nodes;
+    for (uint32_t size = 2; size / 2 < documents; size *= 2)
+      for (uint32_t start = 0; start < documents; start += size) {
+        uint32_t lives = 0, score = 0;
+        for (uint32_t d = start; d < std::min(documents, start + size); d++) {
+          lives += entries[d];
+          score += scores[d];
+        }
+        if (lives) nodes.push_back({start, score});
+      }
+    return nodes;
+  }
+};
+
+// How many of the nodes a front part with the last pair d, c needs.
+inline uint64_t need_of(const std::vector<Inner> &nodes, uint32_t d, uint32_t c) {
+  uint64_t needed = 0;
+  for (const Inner &v : nodes) needed += v.score > c || (v.score == c && v.start <= d);
+  return needed;
+}
+
+// What a search answers under an allowance, from the full list: as abi.h has it.
+inline uint64_t bounded_answer(const std::vector<Inner> &nodes, uint32_t allowance, const uint32_t *full, size_t size) {
+  for (size_t m = size;; m--) {
+    uint64_t need = m ? need_of(nodes, full[2 * m - 2], full[2 * m - 1]) : 0;
+    if (need <= allowance) return m == size ? need << 32 | m : (uint64_t)1 << 63 | (uint64_t)allowance << 32 | m;
+  }
+}
