@@ -2,6 +2,7 @@
 mod known;
 mod rank;
 
+pub use known::ones_between;
 pub use known::rank1_from;
 pub use rank::rank0;
 pub use rank::rank1;

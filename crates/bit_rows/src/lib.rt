@@ -4,6 +4,7 @@ mod blocks;
 mod check;
 mod write;
 
+pub use bit_rank::ones_between;
 pub use bit_rank::rank0;
 pub use bit_rank::rank1;
 pub use bit_rank::rank1_from;

@@ -1,7 +1,7 @@
 // One level of the tree: its row and samples in the slice, and what bit_rows says of them.
 use crate::Levels;
 ghost use mathlib.Core.Path.{_≡_};
-ghost use Prim.Native.Nat.{_≤_, _<_};
+ghost use Prim.Native.Nat.{_-_, _≤_, _<_};
 ghost use lib.ListN.{getD};
 ghost use Rattle.bits.specs.Sequences.{rank};
 ghost use Rattle.wavelet.specs.Levels.{Stored, samplesIn, rowIn, levelOf};
@@ -60,6 +60,21 @@ pub fn ones_from(bytes: &[u8], t: Levels, j: usize, x: usize, c: usize, y: usize
         t.entries,
         x,
         c,
+        y,
+    )
+}
+
+// The ones of level j from place x up to but without y.
+pub fn ones_between(bytes: &[u8], t: Levels, j: usize, x: usize, y: usize) -> usize
+    requires { ⌜ Stored (now bytes) t ⌝ }
+    requires { ⌜ (j < t .height) × (x ≤ y) × (y ≤ t .entries) ⌝ }
+    ensures { λ r. ⌜ r ≡ rank 1 (levelOf (now (bytes .entry)) t j) y - rank 1 (levelOf (now (bytes .entry)) t j) x ⌝ }
+{
+    bit_rows::ones_between(
+        samples_at(bytes, t, j),
+        row_at(bytes, t, j),
+        t.entries,
+        x,
         y,
     )
 }

@@ -8,6 +8,7 @@ mod split;
 pub use descent::access;
 pub use descent::rank;
 pub use level::ones;
+pub use level::ones_between;
 pub use level::ones_from;
 pub use level::row_at;
 pub use level::samples_at;
