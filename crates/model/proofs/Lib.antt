@@ -5,6 +5,7 @@ pub mod Height
 pub mod Wavelet
 pub mod Format
 pub mod Sorting
+pub mod Distinct
 pub mod Priority
 pub mod Ranking
 pub mod Pairs

@@ -47,6 +47,15 @@ module _ {A : Type 0} where
       go true ih = ap (λ (r : List A). x ∷ r) ih
       go false ih = ih
 
+  pub keep-keep : (p q : A → Bool) (xs : List A) → keep p (keep q xs) ≡ keep (λ x. q x && p x) xs
+  keep-keep p q [] = refl
+  keep-keep p q (x ∷ xs) = go (q x) (keep-keep p q xs)
+    where
+      go : (b : Bool) → keep p (keep q xs) ≡ keep (λ y. q y && p y) xs
+          → keep p (cond b (x ∷ keep q xs) (keep q xs)) ≡ cond (b && p x) (x ∷ keep (λ y. q y && p y) xs) (keep (λ y. q y && p y) xs)
+      go true ih = ap (λ (r : List A). cond (p x) (x ∷ r) r) ih
+      go false ih = ih
+
   pub keep-map : {B : Type 0} (p : B → Bool) (f : A → B) (xs : List A) → keep p (map f xs) ≡ map f (keep (λ x. p (f x)) xs)
   keep-map {B} p f [] = refl
   keep-map {B} p f (x ∷ xs) = go (p (f x)) (keep-map p f xs)
@@ -129,6 +138,14 @@ within-drop n (suc a) (x ∷ xs) w = within-drop n a xs (w .1)
 
 pub within-part : (n a b : ℕ) (xs : List ℕ) → Within n xs → Within n (part a b xs)
 within-part n a b xs w = within-take n (b - a) (drop a xs) (within-drop n a xs w)
+
+pub within-keep : (p : ℕ → Bool) (n : ℕ) (xs : List ℕ) → Within n xs → Within n (keep p xs)
+within-keep p n [] w = tt
+within-keep p n (x ∷ xs) w = go (p x) (within-keep p n xs (w .1))
+  where
+    go : (b : Bool) → Within n (keep p xs) → Within n (cond b (x ∷ keep p xs) (keep p xs))
+    go true i = (w .0, i)
+    go false i = i
 
 pub within-append : (n : ℕ) (xs ys : List ℕ) → Within n xs → Within n ys → Within n (xs ++ ys)
 within-append n [] ys w v = v

@@ -18,7 +18,7 @@ use Rattle.model.specs.Format.{Library}
 use Rattle.model.specs.Queries.{Pair, termStart, quantile, pairOf, present, listing, under, countsUnder, conjunction}
 use Rattle.model.specs.Papers.{frequency, listedFrom, listed, difference, occurs, occurrenceList, differences, intersection}
 use Rattle.model.proofs.Sums.{sum-take-mono, sum-take-le}
-use Rattle.model.proofs.Lists.{tally-part, length-part, within-part, tally-within}
+use Rattle.model.proofs.Lists.{keep-keep, tally-part, length-part, within-part, tally-within}
 use Rattle.model.proofs.Wavelet.Sorted.{tally-below-suc, quantile-is}
 use Rattle.model.proofs.Format.Valid.{Valid}
 
@@ -81,15 +81,6 @@ module _ (N a b : ℕ) (xs : List ℕ) (order : a ≤ b) (inside : b ≤ length 
       listed-from 0 N (zero-add N) (b - a) (omega arith) ∙ ap (listedFrom xs a b (b - a)) none
 
 -- ---- conjunction
-
-keep-keep : (p q : ℕ → Bool) (ds : List ℕ) → keep p (keep q ds) ≡ keep (λ d. q d && p d) ds
-keep-keep p q [] = refl
-keep-keep p q (d ∷ ds) = go (q d) (keep-keep p q ds)
-  where
-    go : (c : Bool) → keep p (keep q ds) ≡ keep (λ e. q e && p e) ds
-        → keep p (cond c (d ∷ keep q ds) (keep q ds)) ≡ cond (c && p d) (d ∷ keep (λ e. q e && p e) ds) (keep (λ e. q e && p e) ds)
-    go true i = ap (λ (l : List ℕ). cond (p d) (d ∷ l) l) i
-    go false i = i
 
 -- the documents of a listing
 documents-of : (N : ℕ) (xs : List ℕ) → map (λ p. p .document) (listing N xs) ≡ keep (λ d. ltb 0 (occurrences d xs)) (below N)

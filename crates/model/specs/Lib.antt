@@ -1,10 +1,11 @@
--- Document 01 as definitions, by topic; a section of that document is named at each.
+-- Documents 01 and 02 as definitions, by topic; a section or a request is named at each.
 pub mod Lists
 pub mod Outcome
 pub mod Rows
 pub mod Walk
 pub mod Format
 pub mod Opening
+pub mod Distinct
 pub mod Queries
 pub mod Papers
 pub mod TopK

@@ -1,8 +1,8 @@
 -- The recursion law of the rows: the first row holds the top bits, and each later row is that of the low entries and then that of the high ones.
 use Prim.Native.Nat.{ℕ, zero, suc, _+_, _-_, _*_, _/_, _%_, _^_, _≤_, _<_}
 use mathlib.Core.Path.{_≡_, refl, sym, ap, ap₂, _∙_, fun-ext}
-use mathlib.Core.List.{List, [], _∷_, _++_, map, map-map, append-nil}
-use mathlib.Core.Bool.{Bool, true, false, cond, _&&_}
+use mathlib.Core.List.{List, _++_, map, map-map, append-nil}
+use mathlib.Core.Bool.{Bool, true, false, _&&_}
 use native.Mathlib.Nat.{zero-add, add-zero, add-suc, suc-sub-suc, le-of-lt, div-lt-iff-lt-mul, le-div-iff-mul-le, mul-add-div-right, two-pow-succ}
 use native.Mathlib.Omega.{arith}
 use native.Mathlib.Decide.{ℕ-discrete}
@@ -13,29 +13,11 @@ use Rattle.bits.proofs.Tests.{eqb-iff}
 use Rattle.model.specs.Lists.{keep, Within}
 use Rattle.model.specs.Rows.{row}
 use Rattle.model.specs.Walk.{key}
-use Rattle.model.proofs.Lists.{map-append, keep-within}
+use Rattle.model.proofs.Lists.{map-append, keep-keep, keep-map, keep-within}
 use Rattle.model.proofs.Wavelet.Groups.{groupsFrom, groups-add}
 use Rattle.model.proofs.Wavelet.Rows.{key-root}
 
 -- ---- groups of kept, mapped and shifted entries
-
-keep-keep : (p t : ℕ → Bool) (xs : List ℕ) → keep p (keep t xs) ≡ keep (λ v. t v && p v) xs
-keep-keep p t [] = refl
-keep-keep p t (x ∷ xs) = go (t x) (keep-keep p t xs)
-  where
-    go : (b : Bool) → keep p (keep t xs) ≡ keep (λ v. t v && p v) xs
-        → keep p (cond b (x ∷ keep t xs) (keep t xs)) ≡ cond (b && p x) (x ∷ keep (λ v. t v && p v) xs) (keep (λ v. t v && p v) xs)
-    go true ih = ap (λ (r : List ℕ). cond (p x) (x ∷ r) r) ih
-    go false ih = ih
-
-keep-map : (p : ℕ → Bool) (f : ℕ → ℕ) (xs : List ℕ) → keep p (map f xs) ≡ map f (keep (λ v. p (f v)) xs)
-keep-map p f [] = refl
-keep-map p f (x ∷ xs) = go (p (f x)) (keep-map p f xs)
-  where
-    go : (b : Bool) → keep p (map f xs) ≡ map f (keep (λ v. p (f v)) xs)
-        → cond b (f x ∷ keep p (map f xs)) (keep p (map f xs)) ≡ map f (cond b (x ∷ keep (λ v. p (f v)) xs) (keep (λ v. p (f v)) xs))
-    go true ih = ap (λ (r : List ℕ). f x ∷ r) ih
-    go false ih = ih
 
 -- entries that fail a test may go, if all in these groups pass it
 groups-kept : (k : ℕ → ℕ) (t : ℕ → Bool) (xs : List ℕ) (s n : ℕ) → ((v : ℕ) → s ≤ k v → k v < s + n → t v ≡ true)
