@@ -12,6 +12,7 @@ use Rattle.bits.specs.Sequences.{rank, select}
 use Rattle.model.specs.Lists.{part, overwrite}
 use Rattle.model.specs.Outcome.{Outcome, answered, refuse, andThen}
 use Rattle.model.specs.Format.{Library}
+use Rattle.model.specs.Distinct.{distinct}
 use Rattle.model.specs.Queries.{Range, ofEntries, ofTerms, Bounds, boundsOf, termStart, placeBelow, quantile, Pair, flat, PairsResult, pairsInto, accessResult, rankResult, selectResult, quantileResult, listResult, conjunctionResult}
 use Rattle.model.specs.Papers.{listed, intersection}
 use Rattle.model.proofs.Lists.{length-part}
@@ -119,14 +120,14 @@ module _ (bytes : List ℕ) (lib : Library) (over : AnswersOver bytes lib) where
   -- conjunction: ".. and the all-words question"
   pub all-terms : (q : Terms) (r : Answer) (before after : List ℕ) → pairsOf r after ≡ conjunctionResult bytes (q .numbers) (q .size) before
       → length (q .numbers) ≡ 8 → Asked (length (lib .lengths)) q → 2 * lib .documents ≤ length before
-      → Pairs (intersection lib (take (q .size) (q .numbers))) r before after
+      → Pairs (intersection lib (distinct (take (q .size) (q .numbers)))) r before after
   all-terms q r before after promise eight a room =
       let terms : List ℕ = take (q .size) (q .numbers) in
       let some : q .size ≡ 0 → ⊥ = λ e. let l = a .some in omega arith in
-      pairs-are (intersection lib terms) r before after
+      pairs-are (intersection lib (distinct terms)) r before after
       (promise ∙ over .conjunctions (q .numbers) (q .size) before (omega arith)
       ∙ (λ i.
       pairsInto before
       (refuse 10 (ne-eqb (q .size) 0 some i || le-ltb 8 (q .size) (a .few) i)
       (refuse 11 (any-within (length (lib .lengths)) terms (a .known) i)
-      (refuse 12 (le-ltb (length before) (2 * lib .documents) room i) (answered (intersection lib terms)))))))
+      (refuse 12 (le-ltb (length before) (2 * lib .documents) room i) (answered (intersection lib (distinct terms))))))))

@@ -9,6 +9,7 @@ use borrow.Author.Tests.{lt-ltb, le-ltb}
 use Rattle.model.specs.Lists.{any, overwrite}
 use Rattle.model.specs.Outcome.{Outcome, answered, refused, refuse}
 use Rattle.model.specs.Opening.{contents}
+use Rattle.model.specs.Distinct.{distinct}
 use Rattle.model.specs.Queries.{Pair, PairsResult, pairsInto, flat, conjunction, conjunctionResult}
 use Rattle.archive.specs.declared.Layout.{Layout}
 use Rattle.archive.specs.Layout.{Opened}
@@ -17,7 +18,7 @@ use Rattle.paths.proofs.Asking.{asking, asking-none, asking-many, asking-missin
 
 module _ (bytes : List ℕ) (l : Layout) (o : Opened bytes l) (numbers : List ℕ) (size : ℕ) (answers : List ℕ) where
   abbrev found : List Pair
-  found = conjunction (contents bytes) (take size numbers)
+  found = conjunction (contents bytes) (distinct (take size numbers))
 
   -- refusal 12, in a library of N documents
   abbrev roomed : ℕ → Outcome (List Pair)

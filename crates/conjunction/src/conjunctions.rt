@@ -6,6 +6,7 @@ use answers::put_pair;
 use archive::Layout;
 use archive::Opening;
 use archive::open;
+use distinct_terms::distinct;
 use paths::Terms;
 use paths::put_root;
 use paths::term_missing;
@@ -13,16 +14,17 @@ ghost use mathlib.Core.Path.{_≡_};
 ghost use Prim.Native.Nat.{_*_, _≤_};
 ghost use lib.ListN.{length};
 ghost use Rattle.model.specs.Opening.{contents};
+ghost use Rattle.model.specs.Distinct.{Different};
 ghost use Rattle.model.specs.Queries as model;
 ghost use Rattle.archive.specs.Layout.{Opened};
 ghost use Rattle.answers.specs.Answers.{pairsOf};
 ghost use Rattle.answers.specs.Written.{Lists};
 ghost use Rattle.paths.specs.Paths.{termsOf, Asked};
 
-// The pairs go into the front of the answers; how many. The walk ends as soon as one term has no further document.
+// The pairs go into the front of the answers; how many. The walk ends as soon as one term has no further document. No term is repeated.
 pub fn conjunction_in(archive: &[u8], l: Layout, q: Terms, answers: &mut [u32]) -> usize
     requires { ⌜ Opened (now archive) l ⌝ }
-    requires { ⌜ Asked (l .terms) q × (2 * l .documents ≤ length (now answers)) ⌝ }
+    requires { ⌜ Asked (l .terms) q × (2 * l .documents ≤ length (now answers)) × Different (termsOf q) ⌝ }
     ensures { λ r. ⌜ Lists (model.conjunction (contents (now (archive .entry))) (termsOf q)) r (now (answers .entry)) (now (answers .exit)) ⌝ }
 {
     let mut path = [0u32; 468];
@@ -55,7 +57,8 @@ pub fn conjunction_opened(archive: &[u8], l: Layout, q: Terms, answers: &mut [u3
     if answers.len() < 2 * l.documents {
         return Answer::Refused(12);
     }
-    Answer::Number(conjunction_in(archive, l, q, answers) as u32)
+    let terms = distinct(q);
+    Answer::Number(conjunction_in(archive, l, terms, answers) as u32)
 }
 
 pub fn conjunction(archive: &[u8], q: Terms, answers: &mut [u32]) -> Answer

@@ -11,6 +11,7 @@ use lib.Dec.{leb, ltb, eqb}
 use borrow.Author.Tests.{ltb-true, ltb-false, lt-ltb}
 use Rattle.bits.proofs.Tests.{look, or-right}
 use Rattle.model.specs.Lists.{any}
+use Rattle.model.specs.Distinct.{distinct}
 use Rattle.model.specs.Outcome.{answered, refuse, andThen}
 use Rattle.model.specs.Opening.{opened}
 use Rattle.model.specs.Queries.{pairsInto, conjunction, conjunctionResult}
@@ -62,7 +63,7 @@ conjunction-chosen bytes answers =
     (λ lib.
     refuse 10 wrong
     (refuse 11 (any (leb (length (lib .lengths))) terms)
-    (refuse 12 (ltb (length answers) (2 * lib .documents)) (answered (conjunction lib terms)))))))
+    (refuse 12 (ltb (length answers) (2 * lib .documents)) (answered (conjunction lib (distinct terms))))))))
     (λ ts us. refl)
 
 -- weighted top-k
@@ -77,5 +78,5 @@ weighted-chosen bytes k allowance answers work =
     refuse 10 wrong
     (refuse 11 (any (leb (length (lib .lengths))) terms)
     (refuse 12 (ltb (length answers) (2 * min k (lib .documents)))
-    (refuse 13 (ltb (length work) (4 * lib .documents)) (answered (weightedFound lib terms k allowance))))))))
+    (refuse 13 (ltb (length work) (4 * lib .documents)) (answered (weightedFound lib (distinct terms) k allowance))))))))
     (λ ts us. refl)

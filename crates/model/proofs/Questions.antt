@@ -3,13 +3,14 @@ use Prim.Native.Nat.{ℕ, zero, suc, _*_, _≤_, _<_, min}
 use native.Mathlib.Omega.{arith}
 use mathlib.Core.Path.{_≡_, refl, ap, _∙_, subst}
 use mathlib.Core.List.{List, [], _∷_}
-use mathlib.Core.Bool.{Bool, _||_}
+use mathlib.Core.Bool.{Bool, not, _||_}
 use lib.ListN.{length, getD, take}
 use lib.Dec.{leb, ltb, eqb}
 use borrow.Author.Tests.{ltb-false}
 use Rattle.bits.specs.Sequences.{rank, select}
 use Rattle.bits.proofs.Tests.{or-neither}
-use Rattle.model.specs.Lists.{any, part}
+use Rattle.model.specs.Lists.{keep, any, part}
+use Rattle.model.specs.Distinct.{distinct}
 use Rattle.model.specs.Outcome.{Outcome, answered, refused, refuse, andThen}
 use Rattle.model.specs.Rows.{height}
 use Rattle.model.specs.Format.{Library, Sizes, archiveOf}
@@ -63,12 +64,13 @@ module _ (lib : Library) (v : Valid lib) where
 
   -- the conjunction of one to eight terms
   conjunction-over : (numbers : List ℕ) (size : ℕ) (next : List Pair → Outcome (List Pair)) → 0 < length numbers
-      → refuse 10 (eqb size 0 || ltb 8 size) (next (queries.conjunction lib (take size numbers)))
-      ≡ refuse 10 (eqb size 0 || ltb 8 size) (next (intersection lib (take size numbers)))
+      → refuse 10 (eqb size 0 || ltb 8 size) (next (queries.conjunction lib (distinct (take size numbers))))
+      ≡ refuse 10 (eqb size 0 || ltb 8 size) (next (intersection lib (distinct (take size numbers))))
   conjunction-over [] size next some = absurd (omega arith)
   conjunction-over (t ∷ ts) zero next some = refl
   conjunction-over (t ∷ ts) (suc size) next some =
-      ap (λ (ps : List Pair). refuse 10 (eqb (suc size) 0 || ltb 8 (suc size)) (next ps)) (conjunction-intersection lib v t (take size ts))
+      ap (λ (ps : List Pair). refuse 10 (eqb (suc size) 0 || ltb 8 (suc size)) (next ps))
+      (conjunction-intersection lib v t (keep (λ y. not (eqb t y)) (distinct (take size ts))))
 
   module _ (bytes : List ℕ) (holds : opened bytes ≡ answered lib) where
     -- what each question makes of the archive that it opens
@@ -118,7 +120,7 @@ module _ (lib : Library) (v : Valid lib) where
           (λ y.
           refuse 10 (eqb size 0 || ltb 8 size)
           (refuse 11 (any (leb (length (y .lengths))) (take size numbers))
-          (refuse 12 (ltb (length answers) (2 * y .documents)) (answered (queries.conjunction y (take size numbers))))))))
+          (refuse 12 (ltb (length answers) (2 * y .documents)) (answered (queries.conjunction y (distinct (take size numbers)))))))))
           ∙ ap (pairsInto answers)
           (conjunction-over numbers size
           (λ ps. refuse 11 (any (leb (length (lib .lengths))) (take size numbers)) (refuse 12 (ltb (length answers) (2 * lib .documents)) (answered ps))) some);

@@ -114,7 +114,7 @@ answers =
     ∷ searched 4 (doneWith 1 2) (2 ∷ 1 ∷ nines 6)
     ∷ searched 4 (doneWith 0 0) (nines 8)
     ∷ listed 3 (0 ∷ 2 ∷ 1 ∷ 2 ∷ 3 ∷ 3 ∷ nines 3)
-    ∷ listed 3 (0 ∷ 2 ∷ 1 ∷ 2 ∷ 3 ∷ 2 ∷ nines 3)
+    ∷ listed 3 (0 ∷ 1 ∷ 1 ∷ 1 ∷ 3 ∷ 1 ∷ nines 3)
     ∷ numberIs (answered 187)
     ∷ []
 

@@ -7,6 +7,7 @@ use lib.ListN.{length, getD, take}
 use lib.Dec.{leb, ltb, eqb}
 use Rattle.bits.specs.Sequences.{rank, select}
 use Rattle.model.specs.Lists.{any}
+use Rattle.model.specs.Distinct.{distinct}
 use Rattle.model.specs.Outcome.{answered, refuse, andThen}
 use Rattle.model.specs.Rows.{height}
 use Rattle.model.specs.Format.{Library}
@@ -35,13 +36,13 @@ pub record AnswersOver (bytes : List ℕ) (lib : Library) : Type 0 where
       ≡ pairsInto answers
       (andThen (boundsOf lib range)
       (λ r. refuse 12 (ltb (length answers) (2 * lib .documents)) (answered (listed (lib .entries) (r .from) (r .to)))))
-  -- the all-words question: document 002's test of the documents of one term by differences of ranks
+  -- the all-words question: document 002's test of the documents of one term by differences of ranks, of each different term once (M-101)
   pub conjunctions : (numbers : List ℕ) (size : ℕ) (answers : List ℕ) → 0 < length numbers
       → conjunctionResult bytes numbers size answers
       ≡ pairsInto answers
       (refuse 10 (eqb size 0 || ltb 8 size)
       (refuse 11 (any (leb (length (lib .lengths))) (take size numbers))
-      (refuse 12 (ltb (length answers) (2 * lib .documents)) (answered (intersection lib (take size numbers))))))
+      (refuse 12 (ltb (length answers) (2 * lib .documents)) (answered (intersection lib (distinct (take size numbers)))))))
   -- the range of some terms
   pub ranges : (range : Range) → rangeResult bytes range ≡ boundsOf lib range
   -- both shortlists

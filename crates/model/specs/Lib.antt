@@ -18,3 +18,4 @@ pub mod Demand3
 pub mod WeightedDemand
 pub mod Cases
 pub mod WeightedCases
+pub mod DistinctCases

@@ -7,6 +7,7 @@ use lib.Dec.{leb, ltb, eqb}
 use Rattle.bits.specs.Sequences.{all, below, occurrences, rank, select}
 use Rattle.bits.specs.Bits.{sum}
 use Rattle.model.specs.Lists.{keep, any, part, sorted, overwrite}
+use Rattle.model.specs.Distinct.{distinct}
 use Rattle.model.specs.Outcome.{Outcome, answered, refused, refuse, andThen}
 use Rattle.model.specs.Format.{Library}
 use Rattle.model.specs.Opening.{opened}
@@ -126,7 +127,7 @@ listResult bytes range answers =
 abbrev pub under : Library → ℕ → List ℕ
 under lib t = part (termStart lib t) (termStart lib (suc t)) (lib .entries)
 
--- one count for each of the terms as given: a term given twice is counted twice
+-- one count for each of the terms
 abbrev pub countsUnder : Library → List ℕ → ℕ → List ℕ
 countsUnder lib terms d = map (λ t. occurrences d (under lib t)) terms
 
@@ -135,7 +136,7 @@ conjunction lib terms =
     map (λ d. record { document = d; count = sum (countsUnder lib terms d) })
     (keep (λ d. all (ltb 0) (countsUnder lib terms d)) (below (lib .documents)))
 
--- the question holds so many of the given numbers, one to eight
+-- the question holds so many of the given numbers, one to eight; a repeated term counts once (document 02, M-101), after the refusals
 abbrev pub conjunctionResult : List ℕ → List ℕ → ℕ → List ℕ → PairsResult
 conjunctionResult bytes numbers size answers =
     let terms = take size numbers in
@@ -144,7 +145,7 @@ conjunctionResult bytes numbers size answers =
     (λ lib.
     refuse 10 (eqb size 0 || ltb 8 size)
     (refuse 11 (any (leb (length (lib .lengths))) terms)
-    (refuse 12 (ltb (length answers) (2 * lib .documents)) (answered (conjunction lib terms))))))
+    (refuse 12 (ltb (length answers) (2 * lib .documents)) (answered (conjunction lib (distinct terms)))))))
 
 -- ---- per mille: the rate
 

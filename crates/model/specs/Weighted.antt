@@ -7,6 +7,7 @@ use lib.Dec.{leb, ltb, eqb}
 use Rattle.bits.specs.Sequences.{tally, below, occurrences}
 use Rattle.bits.specs.Bits.{sum}
 use Rattle.model.specs.Lists.{keep, any}
+use Rattle.model.specs.Distinct.{distinct}
 use Rattle.model.specs.Outcome.{answered, refuse, andThen}
 use Rattle.model.specs.Rows.{height}
 use Rattle.model.specs.Format.{Library}
@@ -50,7 +51,7 @@ pub record Weighed : Type 0 where
 abbrev pub weighedTerm : Library → ℕ → Weighed
 weighedTerm lib t = record { weight = weight (lib .documents) (documentsIn (lib .documents) (under lib t)); entries = under lib t }
 
--- one for each of the terms as given: a term given twice is counted twice
+-- one for each of the terms
 abbrev pub weighed : Library → List ℕ → List Weighed
 weighed lib terms = map (weighedTerm lib) terms
 
@@ -109,7 +110,8 @@ module _ (ws : List Weighed) where
 abbrev pub weightedFound : Library → List ℕ → ℕ → ℕ → Found Ended
 weightedFound lib terms k allowance = foundOf (lib .documents) (weightedTopK (weighed lib terms) (height (lib .documents)) (lib .documents) k allowance)
 
--- the question holds so many of the given numbers, one to eight; refused as the conjunction is, then as the shortlist is
+-- the question holds so many of the given numbers, one to eight; refused as the conjunction is, then as the shortlist is. A repeated term counts once
+-- (M-101), after the refusals
 abbrev pub weightedResult : List ℕ → List ℕ → ℕ → ℕ → ℕ → List ℕ → List ℕ → SearchResult Ended
 weightedResult bytes numbers size k allowance answers work =
     let terms = take size numbers in
@@ -120,4 +122,4 @@ weightedResult bytes numbers size k allowance answers work =
     (refuse 11 (any (leb (length (lib .lengths))) terms)
     (refuse 12 (ltb (length answers) (2 * min k (lib .documents)))
     (refuse 13 (ltb (length work) (4 * lib .documents))
-    (answered (weightedFound lib terms k allowance)))))))
+    (answered (weightedFound lib (distinct terms) k allowance)))))))

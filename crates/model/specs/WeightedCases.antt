@@ -41,7 +41,7 @@ module _ (archive terms : List ℕ) (k allowance answers work : ℕ) where
   asked = weightedResult archive (terms ++ nines 8) (length terms) k allowance (nines answers) (nines work)
 
   -- of N documents: how it ended, and the pairs in front of the answer slice
-  abbrev gives : ℕ → Ended → List ℕ → Case
+  abbrev pub gives : ℕ → Ended → List ℕ → Case
   gives N ended pairs = record {
     result = asked;
     expected = record {
@@ -52,7 +52,7 @@ module _ (archive terms : List ℕ) (k allowance answers work : ℕ) where
   }
 
   -- a refusal writes nothing
-  abbrev refuses : ℕ → Case
+  abbrev pub refuses : ℕ → Case
   refuses number = record { result = asked; expected = record { outcome = refused number; answers = nines answers; work = nines work } }
 
 -- ---- the small library: term 0 weighs 1, term 2 weighs 0, and term 1 has no entries
@@ -68,7 +68,7 @@ smallCases =
     ∷ ofSmall (0 ∷ 2 ∷ []) 1 1 (spentWith 0 1) []
     ∷ ofSmall (2 ∷ []) 4 3 (doneWith 4 3) (0 ∷ 0 ∷ 1 ∷ 0 ∷ 2 ∷ 0 ∷ 3 ∷ 0 ∷ [])
     ∷ ofSmall (1 ∷ []) 2 0 (doneWith 0 0) []
-    ∷ ofSmall (0 ∷ 0 ∷ []) 2 2 (doneWith 2 2) (0 ∷ 2 ∷ 1 ∷ 2 ∷ [])
+    ∷ ofSmall (0 ∷ 0 ∷ []) 2 2 (doneWith 2 2) (0 ∷ 1 ∷ 1 ∷ 1 ∷ [])
     ∷ []
 
 pub small-cases : Hold smallCases
@@ -82,7 +82,7 @@ abbrev pile : Library
 pile = library 4 (2 ∷ []) (0 ∷ 0 ∷ [])
 
 -- three terms that weigh 8, 4 and 8
-abbrev mixed : Library
+abbrev pub mixed : Library
 mixed = library 4 (1 ∷ 3 ∷ 1 ∷ []) (1 ∷ 2 ∷ 2 ∷ 3 ∷ 1 ∷ [])
 
 abbrev tellingCases : List Case
@@ -182,7 +182,7 @@ limits =
     ∷ refuses smallArchive (0 ∷ 2 ∷ []) 0 0 0 15 13
     ∷ gives smallArchive (0 ∷ []) 0xFFFFFFFF 0xFFFFFFFF 8 16 4 (doneWith 3 3) (0 ∷ 1 ∷ 1 ∷ 1 ∷ 3 ∷ 1 ∷ [])
     -- eight terms; the eighth is looked at
-    ∷ gives smallArchive (2 ∷ 0 ∷ 1 ∷ 2 ∷ 0 ∷ 2 ∷ 1 ∷ 0 ∷ []) 4 3 8 16 4 (doneWith 4 3) (0 ∷ 3 ∷ 1 ∷ 3 ∷ 3 ∷ 3 ∷ 2 ∷ 0 ∷ [])
+    ∷ gives smallArchive (2 ∷ 0 ∷ 1 ∷ 2 ∷ 0 ∷ 2 ∷ 1 ∷ 0 ∷ []) 4 3 8 16 4 (doneWith 4 3) (0 ∷ 1 ∷ 1 ∷ 1 ∷ 3 ∷ 1 ∷ 2 ∷ 0 ∷ [])
     ∷ refuses smallArchive (replicate 7 0 ++ 3 ∷ []) 4 3 8 16 11
     ∷ []
 

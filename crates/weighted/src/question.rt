@@ -4,6 +4,7 @@ use crate::run::weighted_in;
 use archive::Layout;
 use archive::Opening;
 use archive::open;
+use distinct_terms::distinct;
 use moves::TopK;
 use moves::answer_of;
 use paths::Terms;
@@ -42,7 +43,8 @@ pub fn weighted_opened(
     if work.len() < 4 * layout.documents {
         return TopK::Refused(13);
     }
-    answer_of(weighted_in(archive, layout, q, k, allowance, answers, work))
+    let terms = distinct(q);
+    answer_of(weighted_in(archive, layout, terms, k, allowance, answers, work))
 }
 
 pub fn weighted(

@@ -8,7 +8,7 @@ use mathlib.Core.List.{List, [], _∷_, map, map-map}
 use mathlib.Core.Bool.{Bool, true, false, _&&_, _||_}
 use lib.ListN.{length, getD, take}
 use lib.Dec.{leb, ltb, eqb}
-use borrow.Author.Tests.{lt-ltb, le-ltb, lt-leb, ne-eqb}
+use borrow.Author.Tests.{lt-ltb, le-ltb, ne-eqb}
 use Rattle.bits.specs.Sequences.{bit, tally, below, occurrences}
 use Rattle.bits.specs.Bits.{sum}
 use Rattle.bits.proofs.Tests.{le-or-lt, bit-eq}
@@ -23,10 +23,13 @@ use Rattle.model.specs.TopK.{Node, node, start, countIn, innerNodes, nee
 use Rattle.model.specs.Search.{wait, movesFrom}
 use Rattle.model.specs.Weighted.{Weighed, documentsIn, weight, weighedTerm, weighed, scoreOf, isFound, scoreIn, livesIn, weightedTopK, weightedMoves, weightedFound, weightedResult}
 use Rattle.model.specs.Demand3.{Room}
+use Rattle.model.specs.Distinct.{distinct, EachOnce}
 use Rattle.model.specs.WeightedDemand.{WeightedDemand, hasEntry, nodeHasEntry, score, nodeScore}
 use Rattle.model.proofs.Lists.{within-part, tally-take-lt}
 use Rattle.model.proofs.Height.{le-pow-height}
+use Rattle.model.proofs.Format.Valid.{any-within}
 use Rattle.model.proofs.Format.WriteBack as opened
+use Rattle.model.proofs.Distinct.{distinct-each-once}
 use Rattle.model.proofs.FullList.{fullBy, exactly-k, different, all-pass, exact-count, in-order, others-after}
 use Rattle.model.proofs.Covering as covering
 use Rattle.model.proofs.Greedy.Answers.{figureOf, figure-answer}
@@ -124,17 +127,19 @@ module _ (lib : Library) (terms : List ℕ) where
     -- ---- what is found
 
     module _ (k allowance : ℕ) (out work : List ℕ) (r : SearchResult Ended)
-        (promise : r ≡ foundInto out work (answered (weightedFound lib terms k allowance))) where
+        (promise : r ≡ foundInto out work (answered (weightedFound lib terms k allowance))) (given : List ℕ) (once : EachOnce given terms) where
       abbrev full : List Pair
       full = fullBy N k total has
 
       by-need : r ≡ foundInto out work (answered (foundOf N (answerBy need allowance full)))
       by-need = promise ∙ ap (λ (a : Answer). foundInto out work (answered (foundOf N a))) (answer-is k allowance)
 
-      found : WeightedDemand lib terms k allowance out work r
+      found : WeightedDemand lib given k allowance out work r
       found =
           let L = covering.longestFront need refl allowance full in
           record {
+            terms = terms;
+            terms-once = once;
             weightOf = weightOf;
             weighs = λ t l. weight-largest N (documentsIn N (under lib t)) (documents-some N (under lib t) (under-within t) l) (documents-le N (under lib t));
             weighs-none = λ t e. ap (weight N) (documents-none N (under lib t) e);
@@ -168,10 +173,6 @@ module _ (lib : Library) (terms : List ℕ) where
 
 -- ---- the theorem
 
-not-above : (n : ℕ) (ts : List ℕ) → Within n ts → any (leb n) ts ≡ false
-not-above n [] w = refl
-not-above n (t ∷ ts) w = rw (lt-leb n t (w .0)) (not-above n ts (w .1))
-
 -- for every accepted archive `bytes`, one to eight terms that it has, k and allowance, and whatever stands in lent slices as long as document 01 asks
 module _ (bytes : List ℕ) (s : Sizes) (archive : opening bytes ≡ answered s) (numbers : List ℕ) (size : ℕ) (some : 1 ≤ size) (few : size ≤ 8)
     (known : Within (length (contents bytes .lengths)) (take size numbers)) (k allowance : ℕ) (out work : List ℕ)
@@ -182,19 +183,20 @@ module _ (bytes : List ℕ) (s : Sizes) (archive : opening bytes ≡ answered s)
   abbrev terms : List ℕ
   terms = take size numbers
 
-  not-refused : weightedResult bytes numbers size k allowance out work ≡ foundInto out work (answered (weightedFound held terms k allowance))
+  not-refused : weightedResult bytes numbers size k allowance out work ≡ foundInto out work (answered (weightedFound held (distinct terms) k allowance))
   not-refused =
       let none : eqb size 0 ≡ false = ne-eqb size 0 (λ e. omega arith) in
       let more : ltb 8 size ≡ false = le-ltb 8 size few in
-      let past : any (leb (length (held .lengths))) terms ≡ false = not-above (length (held .lengths)) terms known in
+      let past : any (leb (length (held .lengths))) terms ≡ false = any-within (length (held .lengths)) terms known in
       let short : ltb (length out) (2 * min k (held .documents)) ≡ false = le-ltb (length out) (2 * min k (held .documents)) (room .answers) in
       let tight : ltb (length work) (4 * held .documents) ≡ false = le-ltb (length work) (4 * held .documents) (room .working) in
       rw archive
       (λ i.
       foundInto out work
       (refuse 10 (none i || more i)
-      (refuse 11 (past i) (refuse 12 (short i) (refuse 13 (tight i) (answered (weightedFound held terms k allowance)))))))
+      (refuse 11 (past i) (refuse 12 (short i) (refuse 13 (tight i) (answered (weightedFound held (distinct terms) k allowance)))))))
 
   pub weighted-demand : (r : SearchResult Ended) → r ≡ weightedResult bytes numbers size k allowance out work
       → WeightedDemand (contents bytes) (take size numbers) k allowance out work r
-  weighted-demand r promise = found held terms (opened.accepted bytes s archive .0 .within) k allowance out work r (promise ∙ not-refused)
+  weighted-demand r promise =
+      found held (distinct terms) (opened.accepted bytes s archive .0 .within) k allowance out work r (promise ∙ not-refused) terms (distinct-each-once terms)

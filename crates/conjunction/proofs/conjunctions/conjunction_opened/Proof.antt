@@ -1,14 +1,22 @@
 use borrow.Author.Needs.{needs}
+use Prim.Native.Nat.{ℕ, _≤_}
 use native.Mathlib.Omega.{arith}
-use mathlib.Core.Path.{_≡_, sym, _∙_}
+use mathlib.Core.Path.{_≡_, sym, _∙_, subst}
+use mathlib.Core.List.{List}
 use mathlib.Core.Bool.{true, false}
-use lib.ListN.{take}
+use lib.ListN.{length, take}
 use lib.Dec.{leb}
 use Rattle.model.specs.Lists.{any}
 use Rattle.model.specs.Opening.{contents}
 use Rattle.archive.proofs.Opened.{fitting, documents-are}
 use Rattle.conjunction.proofs.Refusals.{terms-none, terms-many, terms-missing, terms-short, terms-answered}
+use Rattle.model.specs.Distinct.{distinct}
+use Rattle.model.specs.Queries.{conjunction}
+use Rattle.answers.specs.Written.{Lists}
+use Rattle.paths.specs.declared.Terms.{Terms}
+use Rattle.paths.specs.Paths.{termsOf, Asked}
 use Rattle.paths.proofs.Missing.{all-known}
+use Rattle.distinct_terms.proofs.Keeping.{asked-distinct, different-distinct}
 use Rattle.conjunction.proofs.Walks.{found-le}
 use Rattle.conjunction.proofs.conjunctions.conjunction_opened.Statement.{statement}
 use Rattle.conjunction.proofs.conjunctions.conjunction_opened.Tie as tie
@@ -48,27 +56,38 @@ returns-4 c =
     let e : any (leb (g .l .terms)) (take (g .q .size) (g .q .numbers)) ≡ false = sym (c .before .before .before .term-missing .ensures) ∙ c .before .before .if3 .left in
     terms-short (g .archive .now) (g .l) (s .pre) (g .q .numbers) (g .q .size) (g .answers .now) (c .before .before .before .before .before .before .if1 .left) (c .before .before .before .before .if2 .left) e (c .if4 .taken)
 
+-- the given terms are one to eight and known, and so are the different ones
+asked : (c : tie.Else4) → Asked (c .before .before .before .before .before .before .before .before .before .before .args .l .terms) (c .before .before .before .before .before .before .before .before .before .before .args .q)
+asked c =
+    let g = c .before .before .before .before .before .before .before .before .before .before .args in
+    let e : any (leb (g .l .terms)) (take (g .q .size) (g .q .numbers)) ≡ false = sym (c .before .before .before .term-missing .ensures) ∙ c .before .before .if3 .left in
+    let z = c .before .before .before .before .before .before .if1 .left in
+    record { some = omega arith; few = c .before .before .before .before .if2 .left; known = all-known (g .l .terms) (take (g .q .size) (g .q .numbers)) e }
+
+asked-once : (s : tie.Start) (r : Terms) → Asked (s .args .l .terms) (s .args .q) → termsOf r ≡ distinct (termsOf (s .args .q)) → r .size ≤ s .args .q .size
+    → Asked (s .args .l .terms) r
+asked-once s r a e l = let eight : length (s .args .q .numbers) ≡ 8 = search needs in asked-distinct (s .args .l .terms) (s .args .q) r eight a e l
+
+distinct-requires : tie.Need-distinct-requires
+distinct-requires c κs = search needs
+
 conjunction-in-requires : tie.Need-conjunction-in-requires
 conjunction-in-requires c κs =
-    let s = c .before .before .before .before .before .before .before .before .before .before .before in
-    let g = s .args in
-    let e : any (leb (g .l .terms)) (take (g .q .size) (g .q .numbers)) ≡ false = sym (c .before .before .before .before .term-missing .ensures) ∙ c .before .before .before .if3 .left in
-    let z = c .before .before .before .before .before .before .before .if1 .left in (
+    let e = c .before .before in
+    let s = e .before .before .before .before .before .before .before .before .before .before in
+    let d = c .before .distinct in (
       s .pre,
-      (
-        record { some = omega arith; few = c .before .before .before .before .before .if2 .left; known = all-known (g .l .terms) (take (g .q .size) (g .q .numbers)) e },
-        c .before .if4 .left,
-      ),
+      (asked-once s (d .result) (asked e) (d .ensures .0) (d .ensures .1), e .if4 .left, different-distinct (d .result) (termsOf (s .args .q)) (d .ensures .0)),
     )
 
-cast-t11 : tie.Need-cast-t11
-cast-t11 c =
-    let s = c .before .before .before .before .before .before .before .before .before .before .before .before .before .before in
+cast-t12 : tie.Need-cast-t12
+cast-t12 c =
+    let s = c .before .before .before .before .before .before .before .before .before .before .before .before .before .before .before in
     let g = s .args in
     omega (
       arith,
       c .before .before .conjunction-in .ensures .0,
-      found-le (contents (g .archive .now)) (take (g .q .size) (g .q .numbers)) (contents (g .archive .now) .documents),
+      found-le (contents (g .archive .now)) (termsOf (c .before .before .before .before .distinct .result)) (contents (g .archive .now) .documents),
       documents-are (g .archive .now) (g .l) (s .pre),
       fitting (g .archive .now) (g .l) (s .pre) .documents,
     )
@@ -78,11 +97,13 @@ same-length c = search needs
 
 returns-5 : tie.Need-returns-5
 returns-5 c =
-    let s = c .before .before .before .before .before .before .before .before .before .before .before .before .before .before in
+    let e = c .before .before .before .before .before in
+    let s = e .before .before .before .before .before .before .before .before .before .before in
     let g = s .args in
     let k = c .before .before .conjunction-in in
-    let e : any (leb (g .l .terms)) (take (g .q .size) (g .q .numbers)) ≡ false = sym (c .before .before .before .before .before .before .before .term-missing .ensures) ∙ c .before .before .before .before .before .before .if3 .left in
-    terms-answered (g .archive .now) (g .l) (s .pre) (g .q .numbers) (g .q .size) (g .answers .now) (c .before .before .before .before .before .before .before .before .before .before .if1 .left) (c .before .before .before .before .before .before .before .before .if2 .left) e (c .before .before .before .before .if4 .left) (k .result) (k .last .1 .1 .1 .0) (k .ensures .0) (k .ensures .1)
+    let known : any (leb (g .l .terms)) (take (g .q .size) (g .q .numbers)) ≡ false = sym (e .before .before .before .term-missing .ensures) ∙ e .before .before .if3 .left in
+    let found = subst (λ (ts : List ℕ). Lists (conjunction (contents (g .archive .now)) ts) (k .result) (g .answers .now) (k .last .1 .1 .1 .0)) (c .before .before .before .before .distinct .ensures .0) (k .ensures) in
+    terms-answered (g .archive .now) (g .l) (s .pre) (g .q .numbers) (g .q .size) (g .answers .now) (e .before .before .before .before .before .before .if1 .left) (e .before .before .before .before .if2 .left) known (e .if4 .left) (k .result) (k .last .1 .1 .1 .0) (found .0) (found .1)
 
 pub conjunction-opened-spec : {M : Type 1} → statement M
 conjunction-opened-spec =
@@ -94,7 +115,8 @@ conjunction-opened-spec =
     returns-3
     mul-if4
     returns-4
+    distinct-requires
     conjunction-in-requires
-    cast-t11
+    cast-t12
     same-length
     returns-5)

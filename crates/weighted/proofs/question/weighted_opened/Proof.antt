@@ -2,13 +2,22 @@
 use Prim.Native.Nat.{ℕ, _*_, _≤_, _<_, min}
 use native.Mathlib.Omega.{arith}
 use mathlib.Core.Path.{_≡_, sym, ap, _∙_, subst}
+use mathlib.Core.List.{List}
+use mathlib.Core.Bool.{false}
 use lib.ListN.{length}
+use lib.Dec.{leb}
 use borrow.Author.Needs.{needs}
+use Rattle.model.specs.Lists.{any}
+use Rattle.model.specs.Distinct.{distinct}
 use Rattle.model.specs.Outcome.{Outcome, answered}
+use Rattle.model.specs.Opening.{contents}
+use Rattle.model.specs.Weighted.{weightedFound}
 use Rattle.model.specs.TopK.{Ended, Found, foundInto}
 use Rattle.archive.proofs.Opened.{fitting}
-use Rattle.paths.specs.Paths.{termsOf}
+use Rattle.paths.specs.declared.Terms.{Terms}
+use Rattle.paths.specs.Paths.{termsOf, Asked}
 use Rattle.paths.proofs.Missing.{all-known}
+use Rattle.distinct_terms.proofs.Keeping.{asked-distinct, different-distinct}
 use Rattle.weighted.proofs.Answers.{found-answer}
 use Rattle.weighted.proofs.Refusals.{terms-none, terms-many, terms-missing, answers-short, work-short, accepted}
 use Rattle.weighted.proofs.question.weighted_opened.Statement.{statement}
@@ -70,17 +79,34 @@ returns-5 c =
     subst (λ (n : ℕ). 2 * n ≤ length (g .answers .now)) (c .before .before .before .least .ensures) (c .before .before .if4 .left) in
     work-short (g .archive .now) (g .layout) (s .pre) (g .q .numbers) (g .q .size) (g .k) (g .allowance) (g .answers .now) (g .work .now) some few known room (c .if5 .taken)
 
+-- ---- what is known past the refusals
+
+abbrev start : tie.Else5 → tie.Start
+start c = c .before .before .before .before .before .before .before .before .before .before .before .before .before
+
+known : (c : tie.Else5) → any (leb (start c .args .layout .terms)) (termsOf (start c .args .q)) ≡ false
+known c = sym (c .before .before .before .before .before .term-missing .ensures) ∙ c .before .before .before .before .if3 .left
+
+room : (c : tie.Else5) → 2 * min (start c .args .k) (start c .args .layout .documents) ≤ length (start c .args .answers .now)
+room c = subst (λ (n : ℕ). 2 * n ≤ length (start c .args .answers .now)) (c .before .before .before .least .ensures) (c .before .before .if4 .left)
+
+-- the given terms are one to eight and known, and so are the different ones
+once : (c : tie.Else5) (r : Terms) → termsOf r ≡ distinct (termsOf (start c .args .q)) → r .size ≤ start c .args .q .size → Asked (start c .args .layout .terms) r
+once c r e l =
+    let g = start c .args in
+    let some = c .before .before .before .before .before .before .before .before .if1 .left in
+    let a : Asked (g .layout .terms) (g .q) = record { some = omega arith; few = c .before .before .before .before .before .before .if2 .left; known = all-known (g .layout .terms) (termsOf (g .q)) (known c) } in
+    asked-distinct (g .layout .terms) (g .q) r (eight (start c)) a e l
+
+distinct-requires : tie.Need-distinct-requires
+distinct-requires c κs = search needs
+
 weighted-in-requires : tie.Need-weighted-in-requires
 weighted-in-requires c κs =
-    let s = c .before .before .before .before .before .before .before .before .before .before .before .before .before .before .before in
-    let g = s .args in
-    let some = c .before .before .before .before .before .before .before .before .before .before .if1 .left in
-    let few = c .before .before .before .before .before .before .before .before .if2 .left in
-    let known = sym (c .before .before .before .before .before .before .before .term-missing .ensures) ∙ c .before .before .before .before .before .before .if3 .left in
-    let room : 2 * min (g .k) (g .layout .documents) ≤ length (g .answers .now) =
-    subst (λ (n : ℕ). 2 * n ≤ length (g .answers .now)) (c .before .before .before .before .before .least .ensures) (c .before .before .before .before .if4 .left) in (
-      s .pre,
-      (record { some = omega arith; few = few; known = all-known (g .layout .terms) (termsOf (g .q)) known }, room, c .before .before .if5 .left),
+    let e = c .before .before .before in
+    let d = c .before .before .distinct in (
+      start e .pre,
+      (once e (d .result) (d .ensures .0) (d .ensures .1), room e, e .if5 .left, different-distinct (d .result) (termsOf (start e .args .q)) (d .ensures .0)),
     )
 
 answer-of-requires : tie.Need-answer-of-requires
@@ -94,22 +120,20 @@ same-length-2 c = search needs
 
 returns-6 : tie.Need-returns-6
 returns-6 c =
-    let s = c .before .before .before .before .before .before .before .before .before .before .before .before .before .before .before .before .before .before .before .before .before in
+    let e = c .before .before .before .before .before .before .before .before .before in
+    let d = c .before .before .before .before .before .before .before .before .distinct in
+    let s = start e in
     let g = s .args in
-    let some = c .before .before .before .before .before .before .before .before .before .before .before .before .before .before .before .before .if1 .left in
-    let few = c .before .before .before .before .before .before .before .before .before .before .before .before .before .before .if2 .left in
-    let known = sym (c .before .before .before .before .before .before .before .before .before .before .before .before .before .term-missing .ensures) ∙ c .before .before .before .before .before .before .before .before .before .before .before .before .if3 .left in
-    let room : 2 * min (g .k) (g .layout .documents) ≤ length (g .answers .now) =
-    subst (λ (n : ℕ). 2 * n ≤ length (g .answers .now)) (c .before .before .before .before .before .before .before .before .before .before .before .least .ensures) (c .before .before .before .before .before .before .before .before .before .before .if4 .left) in
+    let kept : length (d .result .numbers) ≡ 8 = search needs in
     let w = c .before .before .before .before .before .weighted-in in
     let out = w .last .1 .1 .1 .1 .1 .0 in
     let working = w .last .1 .1 .1 .1 .1 .1 .0 in
     ap (λ (x : Outcome Ended). record { outcome = x; answers = out; work = working }) (c .answer-of .ensures)
     ∙ w .ensures
     ∙ ap (λ (f : Found Ended). foundInto (g .answers .now) (g .work .now) (answered f))
-    (found-answer (g .archive .now) (g .layout) (s .pre) (g .q)
-    (record { some = omega arith; few = few; known = all-known (g .layout .terms) (termsOf (g .q)) known }) (eight s) (g .k) (g .allowance))
-    ∙ accepted (g .archive .now) (g .layout) (s .pre) (g .q .numbers) (g .q .size) (g .k) (g .allowance) (g .answers .now) (g .work .now) some few known room (c .before .before .before .before .before .before .before .before .if5 .left)
+    (found-answer (g .archive .now) (g .layout) (s .pre) (d .result) (once e (d .result) (d .ensures .0) (d .ensures .1)) kept (g .k) (g .allowance)
+    ∙ ap (λ (ts : List ℕ). weightedFound (contents (g .archive .now)) ts (g .k) (g .allowance)) (d .ensures .0))
+    ∙ accepted (g .archive .now) (g .layout) (s .pre) (g .q .numbers) (g .q .size) (g .k) (g .allowance) (g .answers .now) (g .work .now) (e .before .before .before .before .before .before .before .before .if1 .left) (e .before .before .before .before .before .before .if2 .left) (known e) (room e) (e .if5 .left)
 
 pub weighted-opened-spec : {M : Type 1} → statement M
 weighted-opened-spec =
@@ -124,6 +148,7 @@ weighted-opened-spec =
     returns-4
     mul-if5
     returns-5
+    distinct-requires
     weighted-in-requires
     answer-of-requires
     same-length
