@@ -17,3 +17,4 @@ pub mod Probing
 pub mod Weighted
 pub mod Papers
 pub mod Questions
+pub mod Repeated
