@@ -1,9 +1,11 @@
-// Many random libraries through the code, beside a plain count over the list.
+// Many random libraries, and every pattern of terms in a few small ones, through the code and beside a plain count over the list.
 mod archives;
 mod library;
+mod patterns;
 mod shapes;
 
 use library::library;
+use patterns::patterns;
 use shapes::shape_of;
 use trials::differences::totals;
 use trials::random::draw;
@@ -20,5 +22,6 @@ fn libraries(made: &mut [u32; 64]) {
 fn main() {
     let mut made = [0u32; 64];
     libraries(&mut made);
+    patterns(&mut made);
     totals(&made);
 }

@@ -1,6 +1,7 @@
 // The plain side of `compare`: the archive's bytes and every answer by counting over the list. It shares nothing with the code that it is held against,
 // and is proved safe, not right.
 pub mod archive;
+mod asked;
 pub mod numbers;
 pub mod outcome;
 pub mod pairs;

@@ -67,8 +67,8 @@ fn select(entries: &[u32], l: Sizes, document: u32, j: u32) -> Outcome {
     place_of(entries, l.n, document, j)
 }
 
-// The entries under the first so many terms.
-fn total(lengths: &[u32], terms: u32) -> u32 {
+// The entries under the first so many terms, or how many of these are asked for.
+pub fn total(lengths: &[u32], terms: u32) -> u32 {
     let mut sum = 0;
     let mut t = 0;
     while t < terms {

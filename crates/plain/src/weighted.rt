@@ -1,5 +1,6 @@
 // The weighted search by a plain count over the list: df by marking documents, a weight by trying every g, then keys as for the other searches.
 use crate::archive::height;
+use crate::asked::put_asked;
 use crate::numbers::count;
 use crate::numbers::range_of_terms;
 use crate::outcome::Outcome;
@@ -56,14 +57,19 @@ fn weight(documents: u32, df: u32) -> u32 {
     g
 }
 
+// The entries of a term, if it is asked for.
 fn add_term(
     entries: &[u32],
     lengths: &[u32],
     l: Sizes,
     term: u32,
+    asked: u32,
     keys: &mut [u32],
     nodes: &mut [u32],
 ) {
+    if asked == 0 {
+        return;
+    }
     let mut counts = [0u32; 4096];
     let range = range_of_terms(lengths, l, term, term);
     count(entries, range.x, range.y, &mut counts);
@@ -71,23 +77,24 @@ fn add_term(
     add_entries(entries, range, w, height(l.documents), keys, nodes);
 }
 
+// Every term of the library, in turn.
 fn add_terms(
     entries: &[u32],
     lengths: &[u32],
     l: Sizes,
-    numbers: &[u32],
-    size: u32,
+    asked: &[u32],
     keys: &mut [u32],
     nodes: &mut [u32],
 ) {
-    let mut i = 0;
-    while i < size {
-        add_term(entries, lengths, l, at(numbers, i), keys, nodes);
-        i += 1;
+    let terms = l.terms;
+    let mut t = 0;
+    while t < terms {
+        add_term(entries, lengths, l, t, at(asked, t), keys, nodes);
+        t += 1;
     }
 }
 
-// The first so many of the given terms, with k and allowance as the other searches have them.
+// The first so many of the given terms, each once, with k and allowance as the other searches have them.
 pub fn weighted(
     entries: &[u32],
     lengths: &[u32],
@@ -98,12 +105,14 @@ pub fn weighted(
     answers: &mut [u32],
     work: &mut [u32],
 ) -> Outcome {
+    let mut asked = [0u32; 4096];
     let mut keys = [0u32; 4096];
     let mut nodes = [0u32; 4096];
     let judged = with_room(judged_terms(numbers, size, l.terms), l, q);
     if judged.what == REFUSED {
         return judged;
     }
-    add_terms(entries, lengths, l, numbers, size, &mut keys, &mut nodes);
+    put_asked(numbers, size, &mut asked);
+    add_terms(entries, lengths, l, &asked, &mut keys, &mut nodes);
     searched(&mut keys, &nodes, l, q, answers, work)
 }

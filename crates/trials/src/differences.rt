@@ -1,8 +1,10 @@
 // How many questions of each kind were compared, and a line for each difference.
 use libc::STDOUT_FILENO;
+use plain::outcome::DONE;
 use plain::outcome::Outcome;
 use plain::outcome::Question;
 use plain::outcome::REFUSED;
+use plain::outcome::SPENT;
 use slices::at;
 use slices::count_at;
 use slices::plus;
@@ -35,14 +37,19 @@ fn name(kind: u32) {
         14 => text(b"greedy of terms"),
         15 => text(b"probing of entries"),
         16 => text(b"probing of terms"),
-        _ => text(b"weighted"),
+        17 => text(b"weighted"),
+        18 => text(b"conjunction of patterns"),
+        _ => text(b"weighted of patterns"),
     }
 }
 
-const KINDS: u32 = 18;
+const KINDS: u32 = 20;
 
 // A refusal's slot is its number and this.
 const REFUSALS: u32 = 20;
+
+// How many of the weighted searches of patterns end so: an end's slot is its number and this.
+const ENDS: u32 = 40;
 
 const DIFFERENCES: u32 = 63;
 
@@ -106,6 +113,10 @@ pub fn compare(q: Question, found: Outcome, expected: Outcome, alike: bool, made
     }
 }
 
+pub fn count_end(end: Outcome, made: &mut [u32; 64]) {
+    count_at(made, plus(ENDS, end.what));
+}
+
 fn line(kind: u32, made: &[u32; 64]) {
     name(kind);
     show(at(made, kind));
@@ -140,9 +151,18 @@ fn refusals(made: &[u32; 64]) {
     }
 }
 
-// One line a kind of question, and how many were compared; then how many of them are refused, by number; then the differences.
+fn ends(made: &[u32; 64]) {
+    text(b"of these done");
+    show(at(made, plus(ENDS, DONE)));
+    text(b", spent");
+    show(at(made, plus(ENDS, SPENT)));
+    text(b"\n");
+}
+
+// One line a kind of question, and how many were compared; how the last kind ended; then how many are refused, by number; then the differences.
 pub fn totals(made: &[u32; 64]) {
     kinds(made);
+    ends(made);
     refusals(made);
     text(b"differences");
     show(at(made, DIFFERENCES));

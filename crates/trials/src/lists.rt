@@ -125,28 +125,37 @@ pub fn conjunction(
     seed: u32,
     made: &mut [u32; 64],
 ) {
-    let junk = draw(seed, 1);
-    let mut answers = [junk; 8200];
-    let mut plain = [junk; 8200];
     let t = drawn_terms(l, draw(seed, 2));
     let lent = room(draw(seed, 3), plus(l.documents, l.documents));
+    let q = named(12, t, lent);
+    ask_terms(q, t, archive, entries, lengths, l, draw(seed, 1), made);
+}
+
+// The conjunction of some terms. What is lent holds the junk at first.
+pub fn ask_terms(
+    q: Question,
+    t: Terms,
+    archive: &[u8],
+    entries: &[u32],
+    lengths: &[u32],
+    l: Sizes,
+    junk: u32,
+    made: &mut [u32; 64],
+) {
+    let mut answers = [junk; 8200];
+    let mut plain = [junk; 8200];
+    let lent = q.answers;
     let found = conjunction_into(archive, t, lent, &mut answers);
     let numbers = t.numbers;
     let expected = pairs::conjunction(entries, lengths, l, &numbers, t.size, lent, &mut plain);
-    compare(
-        named(t, lent),
-        found,
-        expected,
-        same(&answers, &plain),
-        made,
-    );
+    compare(q, found, expected, same(&answers, &plain), made);
 }
 
 // As a question: the first three terms, and how many there are.
-fn named(t: Terms, lent: u32) -> Question {
+pub fn named(kind: u32, t: Terms, lent: u32) -> Question {
     let numbers = t.numbers;
     Question {
-        kind: 12,
+        kind,
         a: numbers[0],
         b: numbers[1],
         c: numbers[2],

@@ -123,7 +123,7 @@ fn drawn(kind: u32, l: Sizes, t: Terms, seed: u32) -> Question {
     }
 }
 
-fn ask(
+pub fn ask(
     q: Question,
     t: Terms,
     archive: &[u8],

@@ -7,10 +7,10 @@ use Rattle.plain.proofs.pairs.add_terms.Statement.{statement}
 use Rattle.plain.proofs.pairs.add_terms.Tie as tie
 
 abbrev Inv-loop : tie.InvT-loop
-Inv-loop entries lengths l numbers size sums₀ under₀ i₀ sums under i = (length sums ≡ length sums₀) × (length under ≡ length under₀)
+Inv-loop entries lengths l asked sums₀ under₀ terms t₀ sums under t = (length sums ≡ length sums₀) × (length under ≡ length under₀)
 
 abbrev μ-loop : tie.MeasureT-loop
-μ-loop entries lengths l numbers size sums₀ under₀ i₀ sums under i = size - i
+μ-loop entries lengths l asked sums₀ under₀ terms t₀ sums under t = terms - t
 
 loop-holds : tie.Need-loop-holds Inv-loop μ-loop
 loop-holds c = search needs
@@ -21,8 +21,8 @@ at-requires c κs = search needs
 add-term-requires : tie.Need-add-term-requires Inv-loop μ-loop
 add-term-requires c κs = search needs
 
-add-i : tie.Need-add-i Inv-loop μ-loop
-add-i c = search needs
+add-t : tie.Need-add-t Inv-loop μ-loop
+add-t c = search needs
 
 loop-less : tie.Need-loop-less Inv-loop μ-loop
 loop-less c = search needs
@@ -48,7 +48,7 @@ add-terms-spec =
     loop-holds
     at-requires
     add-term-requires
-    add-i
+    add-t
     loop-less
     loop-again
     same-length
