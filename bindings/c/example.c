@@ -40,7 +40,7 @@ static void open_and_read(void) {
   say("read, lengths", 0, lengths, 3);
 }
 
-/* Questions that check the archive. */
+/* Questions that check the archive. A repeated term counts once. */
 static void ask(void) {
   uint32_t x = 99, range[2] = {0, 0}, answers[2 * N], listed = 0;
   say("access 4", masuvelior_access(archive, size, 4, &x), &x, 1);
@@ -52,9 +52,11 @@ static void ask(void) {
   say("list 0 to 4", code, answers, 2 * listed);
   code = masuvelior_list_terms(archive, size, 1, 1, answers, 2 * N, &listed);
   say("list of term 1", code, answers, 2 * listed);
-  const uint32_t both[] = {0, 2};
-  code = masuvelior_conjunction(archive, size, both, 2, answers, 2 * N, &listed);
+  const uint32_t chosen[] = {0, 2, 0};
+  code = masuvelior_conjunction(archive, size, chosen, 2, answers, 2 * N, &listed);
   say("terms 0 and 2", code, answers, 2 * listed);
+  code = masuvelior_conjunction(archive, size, chosen, 3, answers, 2 * N, &listed);
+  say("terms 0, 2 and 0", code, answers, 2 * listed);
   say("range of terms 1 to 2", masuvelior_range_of_terms(archive, size, 1, 2, &range[0], &range[1]), range, 2);
   say("3 of 16 per mille", masuvelior_per_mille(3, 16, &x), &x, 1);
 }
@@ -74,7 +76,7 @@ static void search(void) {
 }
 
 /* Rare terms weigh more: terms 0 and 2 have three and four of the four documents and weigh 1 and 0, term 1 has none and weighs 0. Documents
- * of score 0 are listed too, but those without an entry are not. */
+ * of score 0 are listed too, but those without an entry are not. Term 0 given twice counts once. */
 static void weigh(void) {
   uint32_t answers[2 * N], work[4 * N], listed = 0, end[2] = {9, 9};
   const uint32_t both[] = {0, 2}, twice[] = {0, 0};
@@ -135,10 +137,11 @@ static void ask_opened(void) {
 /* A refusal answers its number and leaves what is lent as it was. */
 static void refusals(void) {
   uint32_t x = 99, listed = 98, answers[2 * N] = {5, 5, 5, 5, 5, 5, 5, 5}, work[4 * N] = {6}, end[2] = {97, 96};
-  const uint32_t nine[] = {0, 0, 0, 0, 0, 0, 0, 0, 0}, three[] = {3};
+  const uint32_t nine[] = {0, 0, 0, 0, 0, 0, 0, 0, 0}, three[] = {3}, repeated[] = {0, 0, 3};
   say("access 8", masuvelior_access(archive, size, 8, &x), &x, 1);
   say("opened access 8", masuvelior_opened_access(archive, size, 8, &x), &x, 1);
   say("nine terms", masuvelior_conjunction(archive, size, nine, 9, answers, 2 * N, &listed), &listed, 1);
+  say("terms 0, 0 and 3", masuvelior_conjunction(archive, size, repeated, 3, answers, 2 * N, &listed), &listed, 1);
   say("opened no terms", masuvelior_opened_conjunction(archive, size, nine, 0, answers, 2 * N, &listed), &listed, 1);
   say("list, short answers", masuvelior_opened_list(archive, size, 0, 8, answers, 2 * N - 1, &listed), &listed, 1);
   say("greedy, short work", masuvelior_greedy_entries(archive, size, 0, 8, 2, 9, answers, 4, work, 4 * N - 1, &listed, &end[0], &end[1]), end, 2);

@@ -33,12 +33,13 @@
 #include <stdint.h>
 
 /* The edition of the archive's format, and the version of this interface: the minor number rises where functions are added, the major one
- * where a function's parameters or answers change. */
+ * where a function's parameters or answers change. From 2.0 on a repeated term counts once (masuvelior_conjunction, masuvelior_weighted);
+ * before, it counted each time. */
 #define MASUVELIOR_EDITION 1
-#define MASUVELIOR_VERSION_MAJOR 1
-#define MASUVELIOR_VERSION_MINOR 1
+#define MASUVELIOR_VERSION_MAJOR 2
+#define MASUVELIOR_VERSION_MINOR 0
 
-/* The limits: n is 0 to MASUVELIOR_MAX_ENTRIES, N and W are 1 to theirs, and a conjunction or a weighted search has 1 to
+/* The limits: n is 0 to MASUVELIOR_MAX_ENTRIES, N and W are 1 to theirs, and a conjunction or a weighted search is given 1 to
  * MASUVELIOR_MAX_CHOSEN terms. */
 #define MASUVELIOR_MAX_ENTRIES 65535
 #define MASUVELIOR_MAX_DOCUMENTS 4096
@@ -166,9 +167,11 @@ MASUVELIOR_MUST_USE
 uint32_t masuvelior_list_terms(const uint8_t *archive, size_t archive_length, uint32_t first, uint32_t last,
                                uint32_t *answers, size_t answers_length, uint32_t *listed);
 
-/* The documents with an entry under each of the chosen terms, ascending, with the sum of their counts; a term given twice counts twice.
- * 10: no term or more than eight. 11: a term W or more. 12: answers under 2 * N numbers.
- * Cost: 2 ranks, and 2 for each term, for each node in which every term has an entry: at most h for each document of the shortest term. */
+/* The documents with an entry under each of the chosen terms, ascending, with the sum of their counts. A repeated term counts once: the
+ * first stands, later ones drop out. 10: no term or more than eight, before any drops out. 11: a term W or more, of all that are given.
+ * 12: answers under 2 * N numbers.
+ * Cost: 2 ranks, and 2 for each different term, for each node in which every term has an entry: at most h for each document of the shortest
+ * term. */
 MASUVELIOR_MUST_USE
 uint32_t masuvelior_conjunction(const uint8_t *archive, size_t archive_length, const uint32_t *chosen, size_t chosen_length,
                                 uint32_t *answers, size_t answers_length, uint32_t *listed);
@@ -219,12 +222,13 @@ uint32_t masuvelior_probing_terms(const uint8_t *archive, size_t archive_length,
 /* The weighted search, in which rare terms weigh more: the first k of the documents with an entry under one or more of the chosen terms, by
  * larger score, equal scores by lower number, as pairs of document and score. A term that df different documents have weighs the largest g
  * with 2^g * df^4 at most N^4, which is 0 to 48; a term without entries weighs 0. A document's score is the sum, over the chosen terms, of
- * the term's weight times the document's count under it: 0, with which it is listed too, to 25,165,440. A term given twice counts twice.
- * The allowance, `spent` and `number` are as in masuvelior_greedy_entries, with scores for counts; a node without an entry of these terms is
- * never opened. 10: no term or more than eight. 11: a term W or more.
+ * the term's weight times the document's count under it: 0, with which it is listed too, to 3,145,680. A repeated term counts once: the
+ * first stands, later ones drop out. The allowance, `spent` and `number` are as in masuvelior_greedy_entries, with scores for counts; a node
+ * without an entry of these terms is never opened. 10: no term or more than eight, before any drops out. 11: a term W or more, of all that
+ * are given.
  * Cost: for the weights, up to 4 ranks for each node where a term has two entries or more: at most h for each document of the term. Then 2 ranks,
- * and 2 for each term with an entry there, for each node opened and for each node above it that is not above the one opened before: at most
- * h in all; for each node opened or document named a step in a heap of the waiting nodes; and 4 * N numbers cleared. */
+ * and 2 for each different term with an entry there, for each node opened and for each node above it that is not above the one opened
+ * before: at most h in all; for each node opened or document named a step in a heap of the waiting nodes; and 4 * N numbers cleared. */
 MASUVELIOR_MUST_USE
 uint32_t masuvelior_weighted(const uint8_t *archive, size_t archive_length, const uint32_t *chosen, size_t chosen_length, uint32_t k,
                              uint32_t allowance, uint32_t *answers, size_t answers_length, uint32_t *work, size_t work_length,
