@@ -21,7 +21,7 @@ use std::fmt;
 /// assert_eq!(archive.select(0, 3), Ok(None)); // there is no third
 /// assert_eq!(archive.quantile(Entries(0..8), 4), Ok(2)); // the fifth, if they were sorted
 /// assert_eq!(archive.list(Terms(0..=0))?, [(0, 1), (1, 1), (3, 1)]);
-/// assert_eq!(archive.conjunction(&[0, 0])?, [(0, 2), (1, 2), (3, 2)]); // a term given twice counts twice
+/// assert_eq!(archive.conjunction(&[0, 0])?, [(0, 1), (1, 1), (3, 1)]); // a repeated term counts once
 /// assert_eq!(archive.range_of_terms(1..=2), Ok(3..8));
 ///
 /// assert_eq!(archive.access(8), Err(Refusal::Argument(Argument::Place)));

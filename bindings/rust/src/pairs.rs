@@ -12,7 +12,8 @@ pub struct Counted {
     pub count: u32,
 }
 
-/// A document and its score: the sum, over the terms of a weighted search, of the term's weight times the document's count under it.
+/// A document and its score: the sum, over the different terms of a weighted search, of the term's weight times the document's count
+/// under it.
 ///
 /// In memory it is two numbers, as [`Counted`] is.
 #[derive(Clone, Copy, Debug, Default, PartialEq, Eq, Hash)]

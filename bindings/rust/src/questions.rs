@@ -124,12 +124,12 @@ impl Archive<'_> {
         Ok(&answers[..listed as usize])
     }
 
-    /// The documents with an entry under each of one to eight terms, ascending, with the sum of their counts; a term given twice counts
-    /// twice. Cost: 2 ranks, and 2 for each term, for each node in which every term has an entry, at most h for each document of the
-    /// shortest term.
+    /// The documents with an entry under each of one to eight terms, ascending, with the sum of their counts. A repeated term counts
+    /// once: the first stands, later ones drop out. Cost: 2 ranks, and 2 for each different term, for each node in which every term has an
+    /// entry, at most h for each document of the shortest term.
     ///
     /// # Errors
-    /// 10 for no term or more than eight; 11 where a term is W or more.
+    /// 10 for no term or more than eight, before any drops out; 11 where one of all that are given is W or more.
     pub fn conjunction(&self, terms: &[u32]) -> Result<Vec<Counted>, Refusal> {
         let mut answers = room(self.documents() as usize);
         let listed = self.conjunction_into(terms, &mut answers)?.len();

@@ -9,13 +9,14 @@ use crate::top_k::Ended;
 /// Weighted top-k: the first k documents by larger score, equal scores by lower number, where rare terms weigh more.
 impl Archive<'_> {
     /// The documents with an entry under one or more of one to eight terms, by their scores. A term that df different documents have weighs
-    /// the largest g with 2^g × df^4 at most N^4, which is 0 to 48; a term without entries weighs 0. A document's score is the sum of the
-    /// term's weight times the document's count under it, for each term as given: a term given twice counts twice. Documents of score 0 are
-    /// listed too. The search may open so many nodes as the allowance says.
+    /// the largest g with 2^g × df^4 at most N^4, which is 0 to 48; a term without entries weighs 0. A document's score is the sum, over
+    /// the terms, of the term's weight times the document's count under it: 0, with which it is listed too, to 3,145,680. A repeated term
+    /// counts once: the first stands, later ones drop out. The search may open so many nodes as the allowance says.
     ///
     /// Cost: for the weights, up to 4 ranks for each node where a term has two entries or more, at most h for each document of the term. Then 2
-    /// ranks, and 2 for each term with an entry there, for each node opened and for each node above it that is not above the one opened
-    /// before, at most h in all; for each node opened or document named a step in a heap of the waiting nodes; and 4 × N numbers cleared.
+    /// ranks, and 2 for each different term with an entry there, for each node opened and for each node above it that is not above the one
+    /// opened before, at most h in all; for each node opened or document named a step in a heap of the waiting nodes; and 4 × N numbers
+    /// cleared.
     ///
     /// ```
     /// use masuvelior::{write, Archive, Ended};
@@ -33,11 +34,14 @@ impl Archive<'_> {
     /// let (documents, ended) = archive.weighted(&[0, 1], 3, 2)?;
     /// assert_eq!(documents, [(2, 8), (3, 4)]);
     /// assert_eq!(ended, Ended::Spent { allowance: 2 });
+    ///
+    /// // Term 1 given twice counts once.
+    /// assert_eq!(archive.weighted(&[1, 1], 3, 100)?, archive.weighted(&[1], 3, 100)?);
     /// # Ok::<(), masuvelior::Refusal>(())
     /// ```
     ///
     /// # Errors
-    /// 10 for no term or more than eight; 11 where a term is W or more.
+    /// 10 for no term or more than eight, before any drops out; 11 where one of all that are given is W or more.
     pub fn weighted(&self, terms: &[u32], k: u32, allowance: u32) -> Result<(Vec<Scored>, Ended), Refusal> {
         let mut answers = room(self.answer_length(k));
         let mut work = vec![0; self.work_length()];

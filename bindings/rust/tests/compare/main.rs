@@ -11,6 +11,7 @@ mod print;
 mod questions;
 mod random;
 mod raw;
+mod repeats;
 mod scores;
 mod sweep;
 mod threads;

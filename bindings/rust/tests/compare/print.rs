@@ -65,7 +65,7 @@ fn the_small_library() -> Result<(), Refusal> {
     assert_eq!(archive.quantile(Entries(0..8), 4)?, 2);
     assert_eq!(archive.quantile(Terms(0..=2), 7)?, 3);
     assert_eq!(archive.conjunction(&[0, 2])?, [(0, 2), (1, 2), (3, 3)]);
-    assert_eq!(archive.conjunction(&[0, 0])?, [(0, 2), (1, 2), (3, 2)]);
+    assert_eq!(archive.conjunction(&[0, 0])?, [(0, 1), (1, 1), (3, 1)]);
     assert!(archive.conjunction(&[0, 1])?.is_empty());
     assert_eq!(per_mille(3, 16)?, 187);
     Ok(())
@@ -104,7 +104,7 @@ fn weighted_of_the_small_library() -> Result<(), Refusal> {
         (&[0, 2], 1, 1, &[], spent(1)),
         (&[2], 4, 3, &[(0, 0), (1, 0), (2, 0), (3, 0)], done(3)),
         (&[1], 2, 0, &[], done(0)),
-        (&[0, 0], 2, 2, &[(0, 2), (1, 2)], done(2)),
+        (&[0, 0], 2, 2, &[(0, 1), (1, 1)], done(2)),
     ];
     for (terms, k, allowance, documents, ended) in cases {
         let got = archive.weighted(terms, k, allowance)?;

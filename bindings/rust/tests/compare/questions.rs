@@ -192,13 +192,22 @@ fn listing(range: &[u32], documents: u32) -> Pairs {
     (0..documents).zip(counts(range, documents)).filter(|pair| pair.1 > 0).collect()
 }
 
-fn conjunction(library: &Library, terms: &[u32]) -> Result<Pairs, u32> {
-    if terms.is_empty() || terms.len() > 8 {
+/// The library's terms that are among the given ones, so each once; or the refusal, for which all that are given count.
+pub fn chosen(library: &Library, given: &[u32]) -> Result<Vec<u32>, u32> {
+    if given.is_empty() || given.len() > 8 {
         return Err(10);
     }
+    let terms = 0..library.lengths.len() as u32;
+    if given.iter().any(|term| !terms.contains(term)) {
+        return Err(11);
+    }
+    Ok(terms.filter(|term| given.contains(term)).collect())
+}
+
+fn conjunction(library: &Library, given: &[u32]) -> Result<Pairs, u32> {
     let mut under_each = Vec::new();
-    for term in terms {
-        let range = part(library, Span::Terms(*term, *term))?;
+    for term in chosen(library, given)? {
+        let range = part(library, Span::Terms(term, term))?;
         under_each.push(counts(range, library.documents));
     }
     let of = |document: u32| under_each.iter().map(move |counts| counts[document as usize]);

@@ -11,7 +11,7 @@ use crate::{quick, rounds};
 use masuvelior::{write, Archive, Ended, Refusal};
 
 /// A library of these lists, one for each term.
-fn library(documents: u32, terms: &[&[u32]]) -> Library {
+pub fn library(documents: u32, terms: &[&[u32]]) -> Library {
     let lengths = terms.iter().map(|term| term.len() as u32).collect();
     Library { entries: terms.concat(), lengths, documents }
 }
@@ -104,17 +104,22 @@ fn weights_of_large_libraries() {
     }
 }
 
-/// The largest score that there is: the rarest term eight times, in the last document of the most.
+/// The largest score that there is: as many entries as there may be, all of them the last of 4,096 documents. Their term is given once or eight
+/// times, or eight terms share them.
 #[test]
 fn largest_score() -> Result<(), Refusal> {
-    let bytes = write(&[4_095; 65_535], &[65_535], 4_096)?;
-    let archive = Archive::open(&bytes)?;
-    let (documents, ended) = archive.weighted(&[0; 8], u32::MAX, 12)?;
-    assert_eq!(documents, [(4_095, 25_165_440)]);
-    assert_eq!(ended, Ended::Done { openings: 12 });
-    let (documents, ended) = archive.weighted(&[0; 8], 1, 11)?;
-    assert!(documents.is_empty());
-    assert_eq!(ended, Ended::Spent { allowance: 11 });
+    let shared = [8_192, 8_192, 8_192, 8_192, 8_192, 8_192, 8_192, 8_191];
+    let cases: [(&[u32], &[u32]); 3] = [(&[65_535], &[0]), (&[65_535], &[0; 8]), (&shared, &[0, 1, 2, 3, 4, 5, 6, 7])];
+    for (lengths, terms) in cases {
+        let bytes = write(&[4_095; 65_535], lengths, 4_096)?;
+        let archive = Archive::open(&bytes)?;
+        let (documents, ended) = archive.weighted(terms, u32::MAX, 12)?;
+        assert_eq!(documents, [(4_095, 3_145_680)]);
+        assert_eq!(ended, Ended::Done { openings: 12 });
+        let (documents, ended) = archive.weighted(terms, 1, 11)?;
+        assert!(documents.is_empty());
+        assert_eq!(ended, Ended::Spent { allowance: 11 });
+    }
     Ok(())
 }
 
@@ -157,8 +162,8 @@ fn archives() -> Vec<(Vec<u8>, u32)> {
 #[test]
 fn every_refusal_and_every_order() {
     let small = open(&archives()[0].0).unwrap();
-    let choices: [&[u32]; 8] =
-        [&[0, 2], &[], &[0; 9], &[3], &[0, 3], &[u32::MAX, 0], &[3; 9], &[0, 0, 0, 0, 0, 0, 0, 3]];
+    let choices: [&[u32]; 9] =
+        [&[0, 2], &[2, 0, 2, 2], &[], &[0; 9], &[3], &[0, 3], &[u32::MAX, 0], &[3; 9], &[0, 0, 0, 0, 0, 0, 0, 3]];
     let mut met = Met::new();
     for (bytes, fault) in archives() {
         for terms in choices {

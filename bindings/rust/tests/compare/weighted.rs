@@ -1,6 +1,6 @@
 //! The model of the weighted search, after `docs/FORMAT.md`: weights by trying, scores by counting, and all nodes one after the other.
 use crate::library::{height, Library};
-use crate::questions::{counts, part, Pairs, Span};
+use crate::questions::{chosen, counts, part, Pairs, Span};
 
 /// What a term weighs that df of the documents have: the largest g with 2^g × df^4 at most N^4, or 0 where df is 0.
 pub fn weight(documents: u32, df: u32) -> u32 {
@@ -15,15 +15,13 @@ pub fn weight(documents: u32, df: u32) -> u32 {
 /// Of each number below 2^h, its score under some terms, and how many entries it has there.
 pub struct Weighed(Vec<(u32, u32)>);
 
-/// Weighs some terms, or refuses them.
-pub fn weigh(library: &Library, terms: &[u32]) -> Result<Weighed, u32> {
-    if terms.is_empty() || terms.len() > 8 {
-        return Err(10);
-    }
+/// Weighs the given terms, each once, or refuses them.
+pub fn weigh(library: &Library, given: &[u32]) -> Result<Weighed, u32> {
+    let terms = chosen(library, given)?;
     let size = 1 << height(library.documents);
     let mut weighed = vec![(0, 0); size as usize];
     for term in terms {
-        let counts = counts(part(library, Span::Terms(*term, *term))?, size);
+        let counts = counts(part(library, Span::Terms(term, term))?, size);
         let df = counts.iter().filter(|count| **count > 0).count();
         let weight = weight(library.documents, df as u32);
         for (of, count) in weighed.iter_mut().zip(counts) {
