@@ -1,12 +1,16 @@
-// What the searches answer by the definitions in docs/FORMAT.md: from the list alone, sharing nothing with a contender.
+// What the conjunction and the searches answer by the definitions in docs/FORMAT.md: from the list alone, sharing nothing with a contender.
 #pragma once
 #include <algorithm>
+#include <set>
 #include <stddef.h>
 #include <stdint.h>
 #include <utility>
 #include <vector>
 
 typedef std::vector<uint32_t> Numbers;
+
+// What the terms of a question come to: a repeated term counts once.
+inline std::set<uint32_t> different(const uint32_t *given, size_t size) { return std::set<uint32_t>(given, given + size); }
 
 // The largest g with 2^g * df^4 at most N^4, by trying each; 0 without entries.
 inline uint32_t weight_by_trying(uint32_t documents, uint32_t df) {
@@ -23,11 +27,11 @@ struct Inner {
   uint32_t start, score;
 };
 
-// For each document its entries, and the score by which it is ranked.
+// For each document its entries, in how many of the added ranges it has some, and the score by which it is ranked.
 struct Sums {
-  uint32_t documents;
-  Numbers entries, scores;
-  Sums(uint32_t N) : documents(N), entries(N), scores(N) {}
+  uint32_t documents, added;
+  Numbers entries, found_in, scores;
+  Sums(uint32_t N) : documents(N), added(0), entries(N), found_in(N), scores(N) {}
 
   // The entries a to b: each adds 1 to the score, or the weight of a term that has these.
   void add(const Numbers &list, size_t a, size_t b, bool term) {
@@ -36,8 +40,18 @@ struct Sums {
     uint32_t df = documents - (uint32_t)std::count(counts.begin(), counts.end(), 0u), weight = term ? weight_by_trying(documents, df) : 1;
     for (uint32_t d = 0; d < documents; d++) {
       entries[d] += counts[d];
+      found_in[d] += counts[d] != 0;
       scores[d] += weight * counts[d];
     }
+    added++;
+  }
+
+  // The conjunction: the documents with an entry in all that was added, ascending, with their entries.
+  Numbers common() const {
+    Numbers pairs;
+    for (uint32_t d = 0; d < documents; d++)
+      if (found_in[d] == added) pairs.insert(pairs.end(), {d, entries[d]});
+    return pairs;
   }
 
   // The full list: the first k of the documents with an entry, by larger score and then lower number.

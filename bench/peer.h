@@ -5,6 +5,7 @@
 // With -mpopcnt each of them counts by the instruction.
 #pragma once
 #include "abi.h"
+#include "terms.h"
 #include <string.h>
 
 namespace {

@@ -223,14 +223,16 @@ void expect(bool right, const Contender &c, const char *what) {
   if (!right) fail("%s: wrong %s", c.name, what);
 }
 
-// What a question adds up. The score of greedy top-k is the count.
+// What a question adds up, each different term once. The score of greedy top-k is the count.
 Sums sums_of(const Data &data, Op op, const Query &q) {
   Sums s(data.documents);
   if (op == GREEDY) s.add(data.entries, q.a, q.b, false);
   else
-    for (size_t i = 0; i < q.size; i++) s.add(data.entries, data.starts[q.chosen[i]], data.starts[q.chosen[i] + 1], true);
+    for (uint32_t t : different(q.chosen, q.size)) s.add(data.entries, data.starts[t], data.starts[t + 1], true);
   return s;
 }
+
+bool takes_terms(Op op) { return op == CONJUNCTION || op == WEIGHTED; }
 
 Query random_query(const Data &data, Op op, size_t turn) {
   size_t n = data.entries.size();
@@ -243,18 +245,14 @@ Query random_query(const Data &data, Op op, size_t turn) {
     q.a = turn == 0 ? n : below(n + 1);
     if (op == SELECT) q.a = 1 + below(turn % 2 ? 40 : n);
   }
-  if (op == CONJUNCTION) {
-    q.size = 1 + below(8);
-    for (size_t i = 0; i < q.size; i++) q.chosen[i] = below(data.lengths.size());
-  }
   // Any terms, those of random entries, and some again. What stands behind the terms is none.
-  if (op == WEIGHTED) {
+  if (takes_terms(op)) {
     q.size = 1 + below(8);
     for (size_t i = 0; i < 8; i++) {
       size_t of_entry = (size_t)(std::upper_bound(data.starts.begin(), data.starts.end(), below(n)) - data.starts.begin()) - 1;
       q.chosen[i] = i >= q.size ? NO_BOUND : i && below(6) == 0 ? q.chosen[below(i)] : (uint32_t)(turn % 3 ? of_entry : below(data.lengths.size()));
     }
-    if (turn % 7 == 3) q.k = NO_BOUND;
+    if (op == WEIGHTED && turn % 7 == 3) q.k = NO_BOUND;
   }
   if (op == QUANTILE || op == LIST || op == GREEDY || op == PROBING) {
     q.a = turn % 4 ? below(n) : 0;
@@ -262,6 +260,17 @@ Query random_query(const Data &data, Op op, size_t turn) {
     if (op != QUANTILE && turn % 16 == 7) q.b = q.a;
     q.x = below(q.b - q.a);
   }
+  return q;
+}
+
+// The first terms of a question, four at most, given again: each beside itself, all of them behind all, and the first alone, eight times.
+enum Again { BESIDE, BEHIND, ALONE };
+Query again(Query q, Again way) {
+  const Query given = q;
+  uint32_t first = std::min(q.size, 4u);
+  q.size = way == ALONE ? 8 : 2 * first;
+  for (uint32_t i = 0; i < q.size; i++) q.chosen[i] = given.chosen[way == BESIDE ? i / 2 : way == BEHIND ? i % first : 0];
+  std::fill(q.chosen + q.size, q.chosen + 8, NO_BOUND);
   return q;
 }
 
@@ -287,8 +296,7 @@ void verify_bounded(const std::vector<Contender> &all, const Data &data, Op op, 
   }
 }
 
-void verify_op(const std::vector<Contender> &all, const Data &data, Op op, size_t turn) {
-  Query q = random_query(data, op, turn);
+void verify_query(const std::vector<Contender> &all, const Data &data, Op op, const Query &q, size_t turn) {
   Numbers right(2 * data.documents + 2), got(2 * data.documents + 2);
   uint64_t expected = all[SCAN].ops[op](data.indexes[SCAN], q, right.data());
   for (size_t c = 1; c < all.size(); c++) {
@@ -297,11 +305,20 @@ void verify_op(const std::vector<Contender> &all, const Data &data, Op op, size_
     expect((uint32_t)r == (uint32_t)expected, all[c], NAMES[op]);
     if (op >= LIST) expect(std::equal(right.begin(), right.begin() + 2 * (uint32_t)expected, got.begin()), all[c], NAMES[op]);
   }
-  if (op == WEIGHTED) {
-    Numbers full = sums_of(data, op, q).list(q.k);
+  if (takes_terms(op)) {
+    Sums sums = sums_of(data, op, q);
+    Numbers full = op == WEIGHTED ? sums.list(q.k) : sums.common();
     expect(expected == full.size() / 2 && std::equal(full.begin(), full.end(), right.begin()), all[SCAN], NAMES[op]);
   }
   if ((op == GREEDY || op == WEIGHTED) && turn % 2 == 0) verify_bounded(all, data, op, q, right, (size_t)expected);
+}
+
+// A question of terms is asked with its terms given again, too.
+void verify_op(const std::vector<Contender> &all, const Data &data, Op op, size_t turn) {
+  Query q = random_query(data, op, turn);
+  verify_query(all, data, op, q, turn);
+  if (!takes_terms(op)) return;
+  for (Again way : {BESIDE, BEHIND, ALONE}) verify_query(all, data, op, again(q, way), turn);
 }
 
 // The archives are the same bytes, give the library back, and with a bit or a byte changed each contender refuses them by the same number.
@@ -493,10 +510,28 @@ Query mixed_query(const Data &data, uint32_t size) {
   return q;
 }
 
-template <class Make> void add(Set &set, const std::vector<Contender> &all, const char *filter, double seconds, Op op, int range, uint32_t k, uint32_t size, Make make) {
+// So many terms, no two equal.
+Query different_query(const Data &data, uint32_t size) {
+  Query q = Query();
+  while (q.size < size) {
+    uint32_t t = below(data.lengths.size()), *end = q.chosen + q.size;
+    q.size += std::find(q.chosen, end, t) == end;
+    *end = t;
+  }
+  return q;
+}
+
+// As typed by wet fingers: the terms of a question in any order, each once or more, eight in all.
+Query typed_wet(Query q) {
+  for (uint32_t size = q.size; q.size < 8; q.size++) q.chosen[q.size] = q.chosen[below(size)];
+  for (uint32_t i = 8; i > 1; i--) std::swap(q.chosen[i - 1], q.chosen[below(i)]);
+  return q;
+}
+
+// `of`: how many terms, as the name has it. A batch has no fewer questions than `least`.
+template <class Make> void add(Set &set, const std::vector<Contender> &all, const char *filter, double seconds, Op op, int range, uint32_t k, const std::string &of, size_t least, Make make) {
   const Data &data = range == MIXED ? *set.mixed : op == CONJUNCTION && range == 1 ? *set.volumes : *set.terms;
-  std::string name = NAMES[op];
-  if (size) name += " of " + std::to_string(size);
+  std::string name = NAMES[op] + of;
   if (range >= 0) name += std::string(" ") + RANGES[range];
   if (k) name += " k=" + std::to_string(k);
   if (filter && (set.name + " " + name).find(filter) == std::string::npos) return;
@@ -515,13 +550,26 @@ template <class Make> void add(Set &set, const std::vector<Contender> &all, cons
     c.indexes.push_back(data.indexes[TIGHT]);
   }
   for (size_t i = 0; i < QUERIES; i++) c.queries.push_back(make(data));
-  // Questions of mixed terms differ much in cost: a batch has several.
-  c.plan(seconds, range == MIXED ? 16 : 1);
+  c.plan(seconds, least);
   set.cells.push_back(c);
 }
 
 void add_cells(Set &set, const std::vector<Contender> &all, const char *filter, double seconds) {
-  auto cell = [&](Op op, int range, uint32_t k, uint32_t size, auto make) { add(set, all, filter, seconds, op, range, k, size, make); };
+  // Questions of mixed terms differ much in cost, and so do those of repeated terms: a batch has several.
+  const size_t several = 16;
+  auto cell = [&](Op op, int range, uint32_t k, uint32_t size, auto make) {
+    add(set, all, filter, seconds, op, range, k, size ? " of " + std::to_string(size) : "", range == MIXED ? several : 1, make);
+  };
+  // Eight terms, two or three of them different. The seed is put back: the other cells have the questions that they have without these.
+  auto repeated = [&](Op op, int range, uint32_t k, auto make) {
+    uint64_t from = seed;
+    add(set, all, filter, seconds, op, range, k, " of 8 repeated", several, [=](const Data &d) {
+      Query q = typed_wet(make(d, 2 + below(2)));
+      q.k = k;
+      return q;
+    });
+    seed = from;
+  };
   auto none = [](const Data &) { return Query(); };
   cell(OPEN, -1, 0, 0, none);
   cell(WRITE, -1, 0, 0, none);
@@ -548,6 +596,7 @@ void add_cells(Set &set, const std::vector<Contender> &all, const char *filter, 
         for (size_t i = 0; i < size; i++) q.chosen[i] = below(d.lengths.size());
         return q;
       });
+  repeated(CONJUNCTION, 1, 0, different_query);
   for (Op op : {GREEDY, PROBING})
     for (int range = 0; range < 3; range++)
       for (uint32_t k : {10u, 100u, DOCUMENTS})
@@ -559,6 +608,7 @@ void add_cells(Set &set, const std::vector<Contender> &all, const char *filter, 
       cell(WEIGHTED, MIXED, k, size, [=](const Data &d) { Query q = mixed_query(d, size); q.k = k; return q; });
     }
   }
+  repeated(WEIGHTED, MIXED, 10, mixed_query);
 }
 
 void print_set(const Set &set, const std::vector<Contender> &all) {

@@ -36,7 +36,7 @@ if [ -f "$library" ]; then
   sdsl=-DSDSL
   for way in plain popcnt; do
     object=build/sdsl_$way.o
-    if [ ! "$object" -nt sdsl.cpp ] || [ ! "$object" -nt contender.h ]; then
+    if [ ! "$object" -nt sdsl.cpp ] || [ ! "$object" -nt contender.h ] || [ ! "$object" -nt terms.h ]; then
       suffix=" nopop"
       more=
       [ $way = popcnt ] && suffix="" && more=-msse4.2

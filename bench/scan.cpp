@@ -1,6 +1,7 @@
 // The plain scan: entries of 16 bits, counted in an array of N counters, or sorted where the range is short.
 // The other contenders are verified against it. Its top-k is one, under greedy and under probing.
 #include "contender.h"
+#include "terms.h"
 #include <algorithm>
 #include <functional>
 #include <string.h>
@@ -98,9 +99,10 @@ uint64_t list(void *p, const Query &q, uint32_t *answers) { return list_range(*(
 // Term by term: the sums of the documents that every term so far has.
 uint64_t conjunction(void *p, const Query &q, uint32_t *answers) {
   Scan &x = *(Scan *)p;
-  size_t found = list_range(x, x.starts[q.chosen[0]], x.starts[q.chosen[0] + 1], answers);
-  for (size_t t = 1; t < q.size && found; t++) {
-    count(x, x.starts[q.chosen[t]], x.starts[q.chosen[t] + 1]);
+  uint32_t terms[8], size = each_once(q.chosen, q.size, terms);
+  size_t found = list_range(x, x.starts[terms[0]], x.starts[terms[0] + 1], answers);
+  for (size_t t = 1; t < size && found; t++) {
+    count(x, x.starts[terms[t]], x.starts[terms[t] + 1]);
     size_t kept = 0;
     for (size_t i = 0; i < found; i++) {
       uint32_t d = answers[2 * i], c = answers[2 * i + 1];
@@ -155,9 +157,9 @@ uint64_t weighted(void *p, const Query &q, uint32_t *answers) {
     std::fill(x.marks.begin(), x.marks.end(), 0);
     x.mark = 0;
   }
-  uint32_t first = x.mark + 1, found = 0;
-  for (size_t t = 0; t < q.size; t++) {
-    const uint16_t *a = x.entries.data() + x.starts[q.chosen[t]], *b = x.entries.data() + x.starts[q.chosen[t] + 1];
+  uint32_t first = x.mark + 1, found = 0, terms[8], size = each_once(q.chosen, q.size, terms);
+  for (size_t t = 0; t < size; t++) {
+    const uint16_t *a = x.entries.data() + x.starts[terms[t]], *b = x.entries.data() + x.starts[terms[t] + 1];
     uint32_t mark = ++x.mark, df = 0;
     for (const uint16_t *e = a; e < b; e++) {
       touched[found] = *e;

@@ -1,6 +1,7 @@
 // sdsl-lite's wavelet trees: wt_int as it comes, and with rank_support_v5 and no select index, which has about the size of our rows and samples.
 // SDSL_ENTRY names the one function that the harness sees, SDSL_SUFFIX ends the contenders' names.
 #include "contender.h"
+#include "terms.h"
 #include <algorithm>
 #include <sdsl/wavelet_trees.hpp>
 #include <sdsl/wt_algorithm.hpp>
@@ -70,9 +71,10 @@ template <class Tree> struct Peer {
   }
   static uint64_t conjunction(void *p, const Query &q, uint32_t *answers) {
     Index &x = *(Index *)p;
-    std::vector<sdsl::range_type> ranges(q.size);
-    for (size_t i = 0; i < q.size; i++) {
-      uint32_t a = x.starts[q.chosen[i]], b = x.starts[q.chosen[i] + 1];
+    uint32_t terms[8], size = each_once(q.chosen, q.size, terms);
+    std::vector<sdsl::range_type> ranges(size);
+    for (size_t i = 0; i < size; i++) {
+      uint32_t a = x.starts[terms[i]], b = x.starts[terms[i] + 1];
       if (a == b) return 0;
       ranges[i] = {{a, b - 1u}};
     }

@@ -1,4 +1,4 @@
-// Weighted top-k of the peer: documents with an entry under some of the terms, by the sum of weight * count.
+// Weighted top-k of the peer: documents with an entry under some of the terms, by the sum of weight * count, each different term once.
 // A node waits as its score, start and depth alone. Where the terms' ranges lie in it is found again from a path of frames, both halves of every
 // level down to the halves of the node opened last: only what lies below the deepest node in common is walked.
 #include "peer.h"
@@ -53,10 +53,12 @@ INLINE void add(Frame &f, u32 lo, u32 hi, u32 weight) {
 }
 
 INLINE void put_root(const Levels &t, u32 documents, const u32 *chosen, u32 size, Frame &root) {
+  u32 terms[8];
+  size = each_once(chosen, size, terms);
   root.start = root.size = 0;
   root.end = t.n;
   for (u32 i = 0; i < size; i++) {
-    u32 lo = number(t.bytes + 40 + 8 * chosen[i]), hi = lo + number(t.bytes + 44 + 8 * chosen[i]);
+    u32 lo = number(t.bytes + 40 + 8 * terms[i]), hi = lo + number(t.bytes + 44 + 8 * terms[i]);
     add(root, lo, hi, weight_of(documents, distinct(t, lo, hi)));
   }
 }

@@ -1,0 +1,15 @@
+// The terms of a question as every contender but ours takes them, in front of its search: a repeated term counts once.
+#pragma once
+#include <stdint.h>
+
+// Of at most eight given terms each different one: the first stands, later ones drop out. How many are left.
+static inline uint32_t each_once(const uint32_t *given, uint32_t size, uint32_t *terms) {
+  uint32_t left = 0;
+  for (uint32_t i = 0; i < size; i++) {
+    uint32_t first = 0;
+    while (given[first] != given[i]) first++;
+    terms[left] = given[i];
+    left += first == i;
+  }
+  return left;
+}
