@@ -1,8 +1,9 @@
 -- Rank and select over a sequence, after document 002, section 2. Places count from 0; the j of select counts from 1.
-use Prim.Native.Nat.{ℕ, zero, suc, _+_, _-_}
+use Prim.Native.Nat.{ℕ, zero, suc, _+_, _-_, _≤_, _<_}
+use mathlib.Core.Path.{_≡_}
 use mathlib.Core.List.{List, [], _∷_}
 use mathlib.Core.Bool.{Bool, true, false, cond, _&&_}
-use lib.ListN.{take}
+use lib.ListN.{length, getD, take}
 use lib.Dec.{eqb, ltb}
 
 -- a test as a number
@@ -44,6 +45,19 @@ select v [] j = 0
 select v (x ∷ xs) j =
     let later = suc (select v xs (j - bit (eqb v x))) in
     cond (eqb v x && eqb j 1) 0 later
+
+-- the j-th element that equals v stands at p: it is v, and one fewer stand before it
+pub record Stands (v : ℕ) (xs : List ℕ) (j p : ℕ) : Type 0 where
+  pub inside : p < length xs
+  pub there : getD xs p 0 ≡ v
+  pub before : rank v xs p + 1 ≡ j
+
+-- what place the j-th has, j from 1, in the paper's words: "the position of the j-th occurrence", and one past the end
+-- "iff the number of c's in S is less than j"
+pub record IsPlace (v : ℕ) (xs : List ℕ) (j p : ℕ) : Type 0 where
+  pub present : j ≤ occurrences v xs → Stands v xs j p
+  pub missing : occurrences v xs < j → p ≡ length xs
+  pub only-missing : p ≡ length xs → occurrences v xs < j
 
 -- a place, or 'none'
 pub data Place : Type 0 where

@@ -10,6 +10,5 @@ pub mod Descend
 pub mod Rank
 pub mod Sorted
 pub mod Quantile
-pub mod Place
 pub mod Select
 pub mod Placing

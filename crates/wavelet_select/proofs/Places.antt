@@ -14,14 +14,13 @@ use borrow.Author.Tests.{lt-ltb, le-ltb}
 use Rattle.bits.specs.Sequences.{occurrences, rank, select, Place, place, none, placeBelow}
 use Rattle.bit_select.specs.Search.{foundOf, placeOr}
 use Rattle.bit_select.specs.declared.Found.{Found}
-use Rattle.model.specs.Walk.{left, right, rankFrom, selectFrom}
-use Rattle.model.proofs.Wavelet.Counts.{ones-step}
+use Rattle.model.specs.Walk.{left, rankFrom, selectFrom}
+use Rattle.model.proofs.Wavelet.Counts.{right-end, zeros-front}
 use Rattle.model.proofs.Wavelet.Rank.{rank-walk}
 use Rattle.model.proofs.Wavelet.Rows.{row-length, row-below}
-use Rattle.bits.proofs.Sequences.{select-le, select-none}
+use Rattle.bits.proofs.Sequences.{select-le, select-ge, select-none, select-stands}
 use Rattle.bit_select.proofs.Search.{found-place}
 use Rattle.model.proofs.Wavelet.Rows.{rows-of}
-use Rattle.model.proofs.Wavelet.Place.{select-ge, select-placed, zeros-front}
 use Rattle.model.proofs.Wavelet.Select.{select-walk}
 use Rattle.wavelet.specs.declared.Levels.{Levels}
 use Rattle.wavelet.specs.Levels.{entriesIn, levelOf}
@@ -62,10 +61,6 @@ module _ (bytes : List ℕ) (t : Levels) (j : ℕ) (l : j < t .height) where
       select-ge 0 (levelOf bytes t j) s ((s - rank 1 (levelOf bytes t j) s) + k + 1) (rw level-length m) (zeros-before s k m)
 
 -- ---- the walk
-
--- all places of the high half
-right-end : (bits : List ℕ) (s e : ℕ) → s ≤ e → right bits s e e ≡ e
-right-end bits s e l = omega (arith, ones-step bits s e l)
 
 -- an offset in a half, carried up into the node
 raise : (ℕ → ℕ) → Place → Place
@@ -159,7 +154,7 @@ module _ (bytes : List ℕ) (t : Levels) (d i : ℕ) (m : d < 2 ^ t .height) (l 
 
   present : i ≤ occurrences d xs → place (selectFrom (levelOf bytes t) d (t .height - 0) 0 0 n (i - 1)) ≡ placeBelow n (select d xs i)
   present o =
-      let p = select-placed d xs i l o .inside in
+      let p = select-stands d xs i l o .inside in
       rw (lt-ltb (select d xs i) n (rw (length-entriesIn bytes t) at p))
       (ap place
       ((λ k. selectFrom (levelOf bytes t) d (sub-zero (t .height) k) 0 0 (sym (length-entriesIn bytes t) k) (i - 1))

@@ -1,13 +1,14 @@
 -- Counts in a part of the list, by the places of a node and the ones of its row; and the bounds of places that code asks for.
-use Prim.Native.Nat.{ℕ, suc, _+_, _-_, _*_, _^_, _≤_, _<_}
-use mathlib.Core.Path.{_≡_}
-use mathlib.Core.List.{List}
+use Prim.Native.Nat.{ℕ, zero, suc, _+_, _-_, _*_, _^_, _≤_, _<_}
+use mathlib.Core.Path.{_≡_, refl}
+use mathlib.Core.List.{List, [], _∷_}
+use native.Mathlib.Nat.{not-suc-le-zero, le-of-suc-le-suc}
 use native.Mathlib.Omega.{arith}
 use lib.ListN.{length, drop, length-take}
 use lib.Dec.{ltb, eqb}
 use Rattle.bits.specs.Sequences.{rank}
 use Rattle.bits.proofs.Tally.{tally-le-length, tally-take-le}
-use Rattle.model.specs.Lists.{part}
+use Rattle.model.specs.Lists.{part, Within}
 use Rattle.model.specs.Rows.{row}
 use Rattle.model.specs.TopK.{node, countIn}
 use Rattle.model.specs.Walk.{zerosIn, left, right, posOf, pos, key}
@@ -68,3 +69,14 @@ module _ (bits : List ℕ) where
 
   pub right-le : (s p e : ℕ) → s ≤ p → p ≤ e → right bits s e p ≤ e
   right-le s p e l m = omega (arith, ones-add p e m, ones-add s p l, ones-mono s p l, ones-mono p e m)
+
+  pub right-end : (s e : ℕ) → s ≤ e → right bits s e e ≡ e
+  right-end s e l = omega (arith, ones-step s e l)
+
+-- of bits, the zeros are those that are not ones
+pub zeros-front : (bits : List ℕ) (i : ℕ) → Within 2 bits → i ≤ length bits → rank 0 bits i + rank 1 bits i ≡ i
+zeros-front bits zero b l = refl
+zeros-front [] (suc i) b l = absurd (not-suc-le-zero l)
+zeros-front (zero ∷ bits) (suc i) b l = omega (arith, zeros-front bits i (b .1) (le-of-suc-le-suc l))
+zeros-front (suc zero ∷ bits) (suc i) b l = omega (arith, zeros-front bits i (b .1) (le-of-suc-le-suc l))
+zeros-front (suc (suc x) ∷ bits) (suc i) b l = absurd (omega (arith, b .0))

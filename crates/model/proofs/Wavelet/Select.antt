@@ -1,20 +1,21 @@
 -- The walk down by the bits of a value and up by the places of the bits yields the place of one of its entries.
-use Prim.Native.Nat.{ℕ, suc, _+_, _-_, _*_, _^_, _≤_, _<_}
+use Prim.Native.Nat.{ℕ, zero, suc, _+_, _-_, _*_, _/_, _%_, _^_, _≤_, _<_}
 use mathlib.Core.Path.{_≡_, sym, ap, _∙_, subst}
 use mathlib.Core.List.{List}
+use mathlib.Core.Bool.{Bool, true, false, cond}
 use native.Mathlib.Nat.{le-of-lt}
 use native.Mathlib.Omega.{arith}
 use lib.ListN.{length, getD, take}
 use lib.Dec.{eqb}
-use Rattle.bits.specs.Sequences.{tally, occurrences, rank, select}
-use Rattle.bits.proofs.Sequences.{select-eq}
+use Rattle.bits.specs.Sequences.{tally, occurrences, rank, select, Stands}
+use Rattle.bits.proofs.Sequences.{rank-le, select-eq, select-lt, select-stands}
 use Rattle.model.specs.Rows.{row}
-use Rattle.model.specs.Walk.{pos, key, selectFrom, selectWalk}
+use Rattle.model.specs.Walk.{pos, key, left, right, rankFrom, selectFrom, selectWalk}
 use Rattle.model.proofs.Lists.{within-at}
-use Rattle.model.proofs.Wavelet.Rows.{RowsOf, root-start, root-place, root-end, row-ones, row-left, row-start, row-middle, row-end, row-bit, row-below, row-pos-lt, count-halves}
+use Rattle.model.proofs.Wavelet.Rows.{RowsOf, root-start, root-place, root-end, row-ones, row-left, row-start, row-middle, row-end, row-bit, row-below, row-length, row-pos-lt, count-halves}
 use Rattle.model.proofs.Wavelet.Descend.{FromLow, FromHigh, descend}
 use Rattle.model.proofs.Wavelet.Rank.{tally-leaf}
-use Rattle.model.proofs.Wavelet.Place.{Placed, select-placed, zeros-front}
+use Rattle.model.proofs.Wavelet.Counts.{ones-mono, ones-step, left-le, right-end, zeros-front}
 
 module _ {h n : ℕ} {xs : List ℕ} {rows : ℕ → List ℕ} (R : RowsOf h n xs rows) (i : ℕ) (l : i < length xs) where
   -- the entry i stands in the node q after those of the node that stand before it
@@ -63,11 +64,48 @@ module _ {h n : ℕ} {xs : List ℕ} {rows : ℕ → List ℕ} (R : RowsOf h n x
       ∙ omega (arith, root-place R i (omega (arith, R .size)), root-start R)
 
 pub select-walk : {h n : ℕ} {xs : List ℕ} {rows : ℕ → List ℕ} → RowsOf h n xs rows → (v j : ℕ) → 0 < j → j ≤ occurrences v xs → selectWalk rows h n v j ≡ select v xs j
-select-walk {h} {n} {xs} {rows} R v j l m = go (select-placed v xs j l m)
+select-walk {h} {n} {xs} {rows} R v j l m = go (select-stands v xs j l m)
   where
-    go : Placed v xs j (select v xs j) → selectWalk rows h n v j ≡ select v xs j
+    go : Stands v xs j (select v xs j) → selectWalk rows h n v j ≡ select v xs j
     go p =
         let c : j - 1 ≡ rank v xs (select v xs j) = omega (arith, p .before) in
         ap (λ (k : ℕ). selectFrom rows v h 0 0 n k) c
         ∙ subst (λ (x : ℕ). selectFrom rows x h 0 0 n (rank x xs (select v xs j)) ≡ select v xs j) (p .there)
         (select-at R (select v xs j) (p .inside))
+
+-- one of a node's entries stands inside it
+module _ {h n : ℕ} {xs : List ℕ} {rows : ℕ → List ℕ} (R : RowsOf h n xs rows) (v k : ℕ) where
+  abbrev Inside : ℕ → ℕ → Type 0
+  Inside m j = (s e : ℕ) → s ≤ e → e ≤ n → k < rankFrom rows v m j s e e → selectFrom rows v m j s e k < e - s
+
+  pub select-inside : (m j : ℕ) → m + j ≡ h → Inside m j
+  select-inside zero j p s e o i l = l
+  select-inside (suc m) j p s e o i l = go (eqb (v / 2 ^ m % 2) 1) l (select-inside m (suc j) (omega arith))
+    where
+      bits : List ℕ
+      bits = rows j
+
+      mid : ℕ
+      mid = left bits s e
+
+      low : ℕ
+      low = selectFrom rows v m (suc j) s mid k
+
+      high : ℕ
+      high = selectFrom rows v m (suc j) mid e k
+
+      all-zeros : rank 0 bits e + rank 1 bits e ≡ e
+      all-zeros =
+          let lj : j < h = omega arith in
+          rw (← (R .rowwise j lj)) (zeros-front (row h j xs) e (row-below h j xs) (omega (arith, row-length h j xs (le-of-lt lj) (R .entries), R .size)))
+
+      go : (b : Bool) → k < cond b (rankFrom rows v m (suc j) mid (right bits s e e) e) (rankFrom rows v m (suc j) s mid mid) → Inside m (suc j)
+          → cond b (select 1 bits (rank 1 bits s + high + 1) - s) (select 0 bits ((s - rank 1 bits s) + low + 1) - s) < e - s
+      go true c ih =
+          let f : high < e - mid = ih mid e (left-le bits s e o) i (rw (right-end bits s e o) at c) in
+          let r : rank 1 bits s + high + 1 ≤ rank 1 bits e = omega (arith, ones-step bits s e o, ones-mono bits s e o) in
+          omega (arith, select-lt 1 bits e (rank 1 bits s + high + 1) (omega arith) r, left-le bits s e o)
+      go false c ih =
+          let f : low < mid - s = ih s mid (omega arith) (omega (arith, left-le bits s e o)) c in
+          let r : (s - rank 1 bits s) + low + 1 ≤ rank 0 bits e = omega (arith, all-zeros, ones-step bits s e o, ones-mono bits s e o, rank-le 1 bits s) in
+          omega (arith, select-lt 0 bits e ((s - rank 1 bits s) + low + 1) (omega arith) r, left-le bits s e o)
