@@ -2,22 +2,14 @@
 use Prim.Native.Nat.{ℕ}
 use mathlib.Core.List.{List}
 use Rattle.model.specs.Outcome.{Outcome, answered, refused}
-use Rattle.model.specs.Queries.{Place, place, none, PairsResult}
+use Rattle.model.specs.Queries.{PairsResult}
 use Rattle.answers.specs.declared.Answer.{Answer}
 use Rattle.answers.specs.declared.Answer.the-variants as answer
-use Rattle.answers.specs.declared.Placed.{Placed}
-use Rattle.answers.specs.declared.Placed.the-variants as placed
 
 -- a number, or a refusal with its number
 abbrev pub numberOf : Answer → Outcome ℕ
 numberOf (answer.Number x) = answered x
 numberOf (answer.Refused number) = refused number
-
--- a place or 'none', or a refusal
-abbrev pub placeOf : Placed → Outcome Place
-placeOf (placed.At p) = answered (place p)
-placeOf placed.Nothing = answered none
-placeOf (placed.Refused number) = refused number
 
 -- how many pairs, or a refusal, and the final content of the answer slice
 abbrev pub pairsOf : Answer → List ℕ → PairsResult

@@ -8,10 +8,3 @@ pub enum Answer {
     Number(u32),
     Refused(u32),
 }
-
-// What a question for a place answers: the place, none, or the number of a refusal.
-pub enum Placed {
-    At(u32),
-    Nothing,
-    Refused(u32),
-}

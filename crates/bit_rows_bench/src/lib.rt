@@ -16,13 +16,12 @@ pub extern "C" fn bit_rows_bench_rank1(samples: &[u8], row: &[u8], n: usize, i: 
     bit_rows::rank1(samples, row, n, i)
 }
 
-// The place, or n where there is none.
 #[no_mangle]
 pub extern "C" fn bit_rows_bench_select1(samples: &[u8], row: &[u8], n: usize, j: usize) -> usize
     requires { ⌜ Sampled n (now samples) (now row) ⌝ }
     ensures { λ r. ⌜ r ≡ select 1 (bitsOf n (now (row .entry))) j ⌝ }
 {
-    bit_rows::place_or(bit_rows::select1(samples, row, n, j), n)
+    bit_rows::select1(samples, row, n, j)
 }
 
 #[no_mangle]
@@ -30,7 +29,7 @@ pub extern "C" fn bit_rows_bench_select0(samples: &[u8], row: &[u8], n: usize, j
     requires { ⌜ Sampled n (now samples) (now row) ⌝ }
     ensures { λ r. ⌜ r ≡ select 0 (bitsOf n (now (row .entry))) j ⌝ }
 {
-    bit_rows::place_or(bit_rows::select0(samples, row, n, j), n)
+    bit_rows::select0(samples, row, n, j)
 }
 
 #[no_mangle]

@@ -1,4 +1,4 @@
--- What the contracts of select cite: how far a search has come, and what it answers.
+-- What the contracts of select cite: how far a search has come.
 use mathlib.Core.Path.{_≡_}
 use mathlib.Core.Bool.{Bool, true, false}
 use mathlib.Core.List.{List}
@@ -6,9 +6,6 @@ use Prim.Native.Nat.{ℕ, _+_, _-_, _*_, _/_, _^_, _≤_, _<_}
 use lib.ListN.{length}
 use Rattle.bits.specs.Bits.{rowBytes}
 use Rattle.bits.specs.Rows.{countBelow, wordAt}
-use Rattle.bits.specs.Sequences.{Place, place, none}
-use Rattle.bit_select.specs.declared.Found.{Found}
-use Rattle.bit_select.specs.declared.Found.the-variants.{At, Nothing}
 
 -- a search among n bits for the j-th that is v has reached a place: fewer than j such bits stand before it
 pub record Reached (n v : ℕ) (row : List ℕ) (j place before : ℕ) : Type 0 where
@@ -33,13 +30,3 @@ pub record InWord (v : ℕ) (row : List ℕ) (k j many bits place before : ℕ) 
   pub left : bits ≡ wordAt row k / 2 ^ (place - 8 * k)
   pub counted : countBelow v row place ≡ before
   pub fewer : before < j
-
--- each case of a search's answer: the place, or 'none'
-abbrev pub foundOf : Found → Place
-foundOf (At p) = place p
-foundOf Nothing = none
-
--- the place that a search among n bits answers; n where it found nothing
-abbrev pub placeOr : Found → ℕ → ℕ
-placeOr (At p) n = p
-placeOr Nothing n = n

@@ -1,5 +1,4 @@
 // Select by the samples: the block by halving, then words, bytes and bits, each skipped while the wanted bit lies behind it.
-use crate::Found;
 use bits::bit;
 use bits::byte_ones;
 use bits::number;
@@ -7,10 +6,10 @@ use bits::word;
 use bits::word_ones;
 ghost use mathlib.Core.Path.{_≡_};
 ghost use Prim.Native.Nat.{_+_, _*_, _≤_, _<_};
-ghost use Rattle.bits.specs.Sequences.{rank, select, placeBelow};
+ghost use Rattle.bits.specs.Sequences.{rank, select};
 ghost use Rattle.bits.specs.Bits.{bitsOf, rowBytes, sampleCount};
 ghost use Rattle.bits.specs.Rows.{countBelow, ofKind, Sampled};
-ghost use Rattle.bit_select.specs.Search.{foundOf, placeOr, Reached, InWord, timesOf};
+ghost use Rattle.bit_select.specs.Search.{Reached, InWord, timesOf};
 
 // A byte of a row, and how many of the bits before it are of the wanted kind.
 pub struct Scan {
@@ -142,10 +141,10 @@ fn narrow(row: &[u8], k: usize, v: u8, from: Left, w: usize, j: usize) -> Left
     }
 }
 
-// The j-th bit that is v among the first n, from a place on.
-fn find_bit(row: &[u8], n: usize, v: u8, place: usize, before: usize, j: usize) -> Found
+// The place of the j-th bit that is v among the first n, from a place on; n where they have fewer.
+fn find_bit(row: &[u8], n: usize, v: u8, place: usize, before: usize, j: usize) -> usize
     requires { ⌜ Reached n v (now row) j place before ⌝ }
-    ensures { λ r. ⌜ foundOf r ≡ placeBelow n (select v (bitsOf n (now (row .entry))) j) ⌝ }
+    ensures { λ r. ⌜ r ≡ select v (bitsOf n (now (row .entry))) j ⌝ }
 {
     let mut i = place;
     let mut count = before;
@@ -153,19 +152,19 @@ fn find_bit(row: &[u8], n: usize, v: u8, place: usize, before: usize, j: usize) 
         if bit(row, i) == v {
             count += 1;
             if count == j {
-                return Found::At(i);
+                return i;
             }
         }
         i += 1;
     }
-    Found::Nothing
+    n
 }
 
 // The same from the word at byte k on, which is halved down to the bit.
-fn find_in_word(row: &[u8], n: usize, v: u8, k: usize, before: usize, j: usize) -> Found
+fn find_in_word(row: &[u8], n: usize, v: u8, k: usize, before: usize, j: usize) -> usize
     requires { ⌜ Reached n v (now row) j (8 * k) before ⌝ }
     requires { ⌜ k + 8 ≤ rowBytes n ⌝ }
-    ensures { λ r. ⌜ foundOf r ≡ placeBelow n (select v (bitsOf n (now (row .entry))) j) ⌝ }
+    ensures { λ r. ⌜ r ≡ select v (bitsOf n (now (row .entry))) j ⌝ }
 {
     let whole = Left {
         bits: word(row, k),
@@ -190,10 +189,10 @@ fn select_blocks(
     from: usize,
     many: usize,
     j: usize,
-) -> Found
+) -> usize
     requires { ⌜ Sampled n (now samples) (now row) ⌝ }
     requires { ⌜ (v < 2) × (0 < many) × (from + many ≤ sampleCount n) × (countBelow v (now row) (512 * from) < j) ⌝ }
-    ensures { λ r. ⌜ foundOf r ≡ placeBelow n (select v (bitsOf n (now (row .entry))) j) ⌝ }
+    ensures { λ r. ⌜ r ≡ select v (bitsOf n (now (row .entry))) j ⌝ }
 {
     let t = block_of(samples, row, n, v, from, many, j);
     let before = sampled(samples, row, n, v, t);
@@ -216,69 +215,59 @@ fn select_blocks(
     find_bit(row, n, v, 8 * end, last.before, j)
 }
 
-fn select_kind(samples: &[u8], row: &[u8], n: usize, v: u8, j: usize) -> Found
+fn select_kind(samples: &[u8], row: &[u8], n: usize, v: u8, j: usize) -> usize
     requires { ⌜ Sampled n (now samples) (now row) ⌝ }
     requires { ⌜ v < 2 ⌝ }
-    ensures { λ r. ⌜ foundOf r ≡ placeBelow n (select v (bitsOf n (now (row .entry))) j) ⌝ }
+    ensures { λ r. ⌜ r ≡ select v (bitsOf n (now (row .entry))) j ⌝ }
 {
     if j == 0 {
-        return Found::Nothing;
+        return n;
     }
     if n == 0 {
-        return Found::Nothing;
+        return 0;
     }
     select_blocks(samples, row, n, v, 0, (n + 511) / 512, j)
 }
 
 // The same where fewer than j are below place a: the blocks of the places a up to e are looked at first.
-fn select_near(samples: &[u8], row: &[u8], n: usize, v: u8, a: usize, e: usize, j: usize) -> Found
+fn select_near(samples: &[u8], row: &[u8], n: usize, v: u8, a: usize, e: usize, j: usize) -> usize
     requires { ⌜ Sampled n (now samples) (now row) ⌝ }
     requires { ⌜ (v < 2) × (a < e) × (e ≤ n) × (rank v (bitsOf n (now row)) a < j) ⌝ }
-    ensures { λ r. ⌜ foundOf r ≡ placeBelow n (select v (bitsOf n (now (row .entry))) j) ⌝ }
+    ensures { λ r. ⌜ r ≡ select v (bitsOf n (now (row .entry))) j ⌝ }
 {
     let from = a / 512;
     select_blocks(samples, row, n, v, from, (e + 511) / 512 - from, j)
 }
 
-// The place that a search among n bits answers; n where it found nothing.
-pub fn place_or(f: Found, n: usize) -> usize
-    ensures { λ r. ⌜ r ≡ placeOr f n ⌝ }
-{
-    match f {
-        Found::At(p) => p,
-        Found::Nothing => n,
-    }
-}
-
-// The place of the j-th one, counted from 1.
-pub fn select1(samples: &[u8], row: &[u8], n: usize, j: usize) -> Found
+// The place of the j-th one, counted from 1; n where the row has fewer, and where j is 0.
+pub fn select1(samples: &[u8], row: &[u8], n: usize, j: usize) -> usize
     requires { ⌜ Sampled n (now samples) (now row) ⌝ }
-    ensures { λ r. ⌜ foundOf r ≡ placeBelow n (select 1 (bitsOf n (now (row .entry))) j) ⌝ }
+    ensures { λ r. ⌜ r ≡ select 1 (bitsOf n (now (row .entry))) j ⌝ }
 {
     select_kind(samples, row, n, 1, j)
 }
 
-// The place of the j-th zero, counted from 1.
-pub fn select0(samples: &[u8], row: &[u8], n: usize, j: usize) -> Found
+// The place of the j-th zero, the same way.
+pub fn select0(samples: &[u8], row: &[u8], n: usize, j: usize) -> usize
     requires { ⌜ Sampled n (now samples) (now row) ⌝ }
-    ensures { λ r. ⌜ foundOf r ≡ placeBelow n (select 0 (bitsOf n (now (row .entry))) j) ⌝ }
+    ensures { λ r. ⌜ r ≡ select 0 (bitsOf n (now (row .entry))) j ⌝ }
 {
     select_kind(samples, row, n, 0, j)
 }
 
 // The same where fewer than j are below place a: the blocks of the places a up to e are looked at first.
-pub fn select1_near(samples: &[u8], row: &[u8], n: usize, a: usize, e: usize, j: usize) -> Found
+pub fn select1_near(samples: &[u8], row: &[u8], n: usize, a: usize, e: usize, j: usize) -> usize
     requires { ⌜ Sampled n (now samples) (now row) ⌝ }
     requires { ⌜ (a < e) × (e ≤ n) × (rank 1 (bitsOf n (now row)) a < j) ⌝ }
-    ensures { λ r. ⌜ foundOf r ≡ placeBelow n (select 1 (bitsOf n (now (row .entry))) j) ⌝ }
+    ensures { λ r. ⌜ r ≡ select 1 (bitsOf n (now (row .entry))) j ⌝ }
 {
     select_near(samples, row, n, 1, a, e, j)
 }
 
-pub fn select0_near(samples: &[u8], row: &[u8], n: usize, a: usize, e: usize, j: usize) -> Found
+pub fn select0_near(samples: &[u8], row: &[u8], n: usize, a: usize, e: usize, j: usize) -> usize
     requires { ⌜ Sampled n (now samples) (now row) ⌝ }
     requires { ⌜ (a < e) × (e ≤ n) × (rank 0 (bitsOf n (now row)) a < j) ⌝ }
-    ensures { λ r. ⌜ foundOf r ≡ placeBelow n (select 0 (bitsOf n (now (row .entry))) j) ⌝ }
+    ensures { λ r. ⌜ r ≡ select 0 (bitsOf n (now (row .entry))) j ⌝ }
 {
     select_near(samples, row, n, 0, a, e, j)
 }

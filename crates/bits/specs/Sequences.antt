@@ -4,7 +4,7 @@ use mathlib.Core.Path.{_≡_}
 use mathlib.Core.List.{List, [], _∷_}
 use mathlib.Core.Bool.{Bool, true, false, cond, _&&_}
 use lib.ListN.{length, getD, take}
-use lib.Dec.{eqb, ltb}
+use lib.Dec.{eqb}
 
 -- a test as a number
 abbrev pub bit : Bool → ℕ
@@ -52,18 +52,9 @@ pub record Stands (v : ℕ) (xs : List ℕ) (j p : ℕ) : Type 0 where
   pub there : getD xs p 0 ≡ v
   pub before : rank v xs p + 1 ≡ j
 
--- what place the j-th has, j from 1, in the paper's words: "the position of the j-th occurrence", and one past the end
+-- what place the j-th has, j from 1 (M-102), in the paper's words: "the position of the j-th occurrence", and one past the end
 -- "iff the number of c's in S is less than j"
 pub record IsPlace (v : ℕ) (xs : List ℕ) (j p : ℕ) : Type 0 where
   pub present : j ≤ occurrences v xs → Stands v xs j p
   pub missing : occurrences v xs < j → p ≡ length xs
   pub only-missing : p ≡ length xs → occurrences v xs < j
-
--- a place, or 'none'
-pub data Place : Type 0 where
-  place : ℕ → Place
-  none : Place
-
--- a place among n; one past the end is none
-abbrev pub placeBelow : ℕ → ℕ → Place
-placeBelow n p = cond (ltb p n) (place p) none

@@ -20,8 +20,7 @@ fn ask_part(q: Question, archive: &[u8]) {
     match kind {
         3 => show::opening(archive::open(archive)),
         4 => report(archive),
-        5..=9 => show::answer(number(q, archive)),
-        10 => show::placed(queries::select(archive, q.a, q.b)),
+        5..=10 => show::answer(number(q, archive)),
         11 => show::range(queries::range_of_terms(archive, q.a, q.b)),
         20 => show::bytes(archive),
         _ => ask_lent(q, archive),
@@ -41,7 +40,8 @@ fn number(q: Question, archive: &[u8]) -> Answer {
         6 => queries::rank(archive, q.a, q.b),
         7 => queries::quantile(archive, q.a, q.b, q.c),
         8 => queries::quantile_terms(archive, q.a, q.b, q.c),
-        _ => queries::per_mille(q.a, q.b),
+        9 => queries::per_mille(q.a, q.b),
+        _ => queries::select(archive, q.a, q.b),
     }
 }
 

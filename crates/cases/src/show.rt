@@ -1,6 +1,5 @@
 // How answers are printed: their numbers, or `refused` and its number.
 use answers::Answer;
-use answers::Placed;
 use archive::Opening;
 use archive_ranges::Range;
 use libc::STDOUT_FILENO;
@@ -57,14 +56,6 @@ pub fn answer(found: Answer) {
     match found {
         Answer::Number(x) => number(x),
         Answer::Refused(x) => refused(x),
-    }
-}
-
-pub fn placed(found: Placed) {
-    match found {
-        Placed::At(p) => number(p),
-        Placed::Nothing => show(b"none"),
-        Placed::Refused(x) => refused(x),
     }
 }
 

@@ -2,26 +2,26 @@
 -- An accepted archive answers over what it holds, and one that was written over the library that was given to the writer.
 use Prim.Native.Nat.{ℕ, suc, _-_, _*_, _≤_, _<_}
 use native.Mathlib.Omega.{arith}
-use mathlib.Core.Path.{_≡_, ap, ap₂, _∙_}
+use mathlib.Core.Path.{_≡_, sym, ap, ap₂, _∙_}
 use mathlib.Core.List.{List}
 use mathlib.Core.Bool.{Bool, _||_}
 use lib.ListN.{length, getD, take}
 use lib.Dec.{leb, ltb}
 use borrow.Author.Tests.{le-ltb, lt-leb, ne-eqb}
-use Rattle.bits.specs.Sequences.{rank, select}
+use Rattle.bits.specs.Sequences.{occurrences, rank, select}
+use Rattle.bits.proofs.Sequences.{select-is-place}
 use Rattle.model.specs.Lists.{part, overwrite}
 use Rattle.model.specs.Outcome.{Outcome, answered, refuse, andThen}
 use Rattle.model.specs.Format.{Library}
 use Rattle.model.specs.Distinct.{distinct}
-use Rattle.model.specs.Queries.{Range, ofEntries, ofTerms, Bounds, boundsOf, termStart, placeBelow, quantile, Pair, flat, PairsResult, pairsInto, accessResult, rankResult, selectResult, quantileResult, listResult, conjunctionResult}
+use Rattle.model.specs.Queries.{Range, ofEntries, ofTerms, Bounds, boundsOf, termStart, quantile, Pair, flat, PairsResult, pairsInto, accessResult, rankResult, selectResult, quantileResult, listResult, conjunctionResult}
 use Rattle.model.specs.Papers.{listed, intersection}
 use Rattle.model.proofs.Lists.{length-part}
 use Rattle.model.proofs.Format.Valid.{any-within}
 use Rattle.model.specs.Demand2.{AnswersOver}
 use Rattle.answers.specs.declared.Answer.{Answer}
 use Rattle.answers.specs.declared.Answer.the-variants.{Number, Refused}
-use Rattle.answers.specs.declared.Placed.{Placed}
-use Rattle.answers.specs.Answers.{numberOf, placeOf, pairsOf}
+use Rattle.answers.specs.Answers.{numberOf, pairsOf}
 use Rattle.paths.specs.declared.Terms.{Terms}
 use Rattle.paths.specs.Paths.{Asked}
 
@@ -69,12 +69,23 @@ module _ (bytes : List ℕ) (lib : Library) (over : AnswersOver bytes lib) where
       ∙ ap₂ (λ (b c : Bool). refuse 11 (b || c) (answered (rank d xs p))) (lt-leb (lib .documents) d known) (le-ltb (length xs) p l))
 
   -- select: ".. places .."
-  pub place : (d j : ℕ) (r : Placed) → placeOf r ≡ selectResult bytes d j → d < lib .documents → 1 ≤ j
-      → placeOf r ≡ answered (placeBelow (length xs) (select d xs j))
+  pub place : (d j : ℕ) (r : Answer) → numberOf r ≡ selectResult bytes d j → d < lib .documents → 1 ≤ j → r ≡ Number (select d xs j)
   place d j r promise known l =
-      promise ∙ over .places d j
-      ∙ ap₂ (λ (b c : Bool). refuse 11 (b || c) (answered (placeBelow (length xs) (select d xs j)))) (lt-leb (lib .documents) d known)
-      (ne-eqb j 0 (λ e. omega arith))
+      number-is r (select d xs j)
+      (promise ∙ over .places d j
+      ∙ ap₂ (λ (b c : Bool). refuse 11 (b || c) (answered (select d xs j))) (lt-leb (lib .documents) d known) (ne-eqb j 0 (λ e. omega arith)))
+
+  -- "The place question now answers n where it answered 'none'" (M-102): where there are fewer than j, and only there
+  pub place-missing : (d j : ℕ) (r : Answer) → numberOf r ≡ selectResult bytes d j → d < lib .documents → 1 ≤ j → occurrences d xs < j
+      → r ≡ Number (length xs)
+  place-missing d j r promise known l few = place d j r promise known l ∙ ap Number (select-is-place d xs j l .missing few)
+
+  pub place-at-end : (d j : ℕ) (r : Answer) → numberOf r ≡ selectResult bytes d j → d < lib .documents → 1 ≤ j → r ≡ Number (length xs)
+      → occurrences d xs < j
+  place-at-end d j r promise known l end =
+      let e : Number (select d xs j) ≡ Number (length xs) = sym (place d j r promise known l) ∙ end in
+      let n : select d xs j ≡ length xs = cc in
+      select-is-place d xs j l .only-missing n
 
   -- quantile and quantile_terms: ".. ranks .."
   rank-in : (range : Range) (z : Bounds) → boundsOf lib range ≡ answered z → (t : ℕ) (r : Answer) → numberOf r ≡ quantileResult bytes range t

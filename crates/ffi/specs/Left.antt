@@ -4,7 +4,7 @@ use mathlib.Core.List.{List, [], _∷_}
 use Rattle.model.specs.Outcome.{Outcome, answered, refused}
 use Rattle.model.specs.Format.{Sizes, WriteResult}
 use Rattle.model.specs.Opening.{ReadResult}
-use Rattle.model.specs.Queries.{Place, place, none, Bounds, PairsResult}
+use Rattle.model.specs.Queries.{Bounds, PairsResult}
 use Rattle.model.specs.TopK.{Ended, doneWith, spentWith, SearchResult}
 use Rattle.reader.specs.declared.Reading.{Reading}
 use Rattle.reader.specs.declared.Reading.the-variants.{Read, Refused}
@@ -41,11 +41,6 @@ sizes s = three (s .entries) (s .documents) (s .terms)
 
 abbrev pub ends : Bounds → List ℕ
 ends r = two (r .from) (r .to)
-
--- 'none' is the largest number of 32 bits: no entry has that place
-abbrev pub placed : Place → List ℕ
-placed (place p) = one p
-placed none = one 4294967295
 
 -- how many pairs are listed; 0 for 'done' or 1 for 'spent'; the openings needed or the allowance
 abbrev pub ended : Ended → List ℕ

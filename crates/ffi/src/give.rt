@@ -1,6 +1,5 @@
 // From the answer of an operation to 0 and the out-parameters, or to the number of the refusal: one function for each shape of answer.
 use answers::Answer;
-use answers::Placed;
 use archive_ranges::Range;
 use moves::TopK;
 use reader::Reading;
@@ -11,14 +10,11 @@ ghost use Prim.Native.Nat.{_^_, _<_};
 ghost use Rattle.archive_ranges.specs.Ranges.{boundsIn};
 ghost use Rattle.reader.specs.Reading.{readingOf};
 ghost use Rattle.writer.specs.Writing.{writtenOf};
-ghost use Rattle.answers.specs.Answers.{numberOf, placeOf};
+ghost use Rattle.answers.specs.Answers.{numberOf};
 ghost use Rattle.moves.specs.Results.{topKOf};
 ghost use Rattle.top_k.specs.Asked.{probedOf};
 ghost use Rattle.ffi.specs.Left as border;
-ghost use Rattle.ffi.specs.Left.{given, placed, ended, Narrow, coded, one, two, three};
-
-// The place that stands for 'none'.
-const NONE: u32 = 4294967295;
+ghost use Rattle.ffi.specs.Left.{given, ended, Narrow, coded, one, two, three};
 
 pub fn number(answer: Answer, out: &mut u32) -> u32
     ensures { λ r. ⌜ coded r (one (now (out .exit))) ≡ given one (numberOf answer) (one (now (out .entry))) ⌝ }
@@ -29,22 +25,6 @@ pub fn number(answer: Answer, out: &mut u32) -> u32
             0
         }
         Answer::Refused(number) => number,
-    }
-}
-
-pub fn place(answer: Placed, out: &mut u32) -> u32
-    ensures { λ r. ⌜ coded r (one (now (out .exit))) ≡ given placed (placeOf answer) (one (now (out .entry))) ⌝ }
-{
-    match answer {
-        Placed::At(p) => {
-            *out = p;
-            0
-        }
-        Placed::Nothing => {
-            *out = NONE;
-            0
-        }
-        Placed::Refused(number) => number,
     }
 }
 

@@ -3,7 +3,7 @@ use ffi::give;
 ghost use mathlib.Core.Path.{_≡_};
 ghost use Rattle.model.specs.Queries.{accessResult, rankResult, selectResult};
 ghost use Rattle.archive.specs.Layout.{IsArchive};
-ghost use Rattle.ffi.specs.Left.{given, placed, coded, one};
+ghost use Rattle.ffi.specs.Left.{given, coded, one};
 
 // The entry at a place.
 #[no_mangle]
@@ -44,12 +44,12 @@ pub extern "C" fn masuvelior_opened_rank(
     give::number(queries::rank_opened(archive, l, document, place), count)
 }
 
-// The place of the j-th entry of a document.
+// The place of the j-th entry of a document; n where it has fewer.
 #[no_mangle]
 pub extern "C" fn masuvelior_select(archive: &[u8], document: u32, j: u32, place: &mut u32) -> u32
-    ensures { λ r. ⌜ coded r (one (now (place .exit))) ≡ given placed (selectResult (now (archive .entry)) document j) (one (now (place .entry))) ⌝ }
+    ensures { λ r. ⌜ coded r (one (now (place .exit))) ≡ given one (selectResult (now (archive .entry)) document j) (one (now (place .entry))) ⌝ }
 {
-    give::place(queries::select(archive, document, j), place)
+    give::number(queries::select(archive, document, j), place)
 }
 
 #[no_mangle]
@@ -60,8 +60,8 @@ pub extern "C" fn masuvelior_opened_select(
     place: &mut u32,
 ) -> u32
     requires { ⌜ IsArchive (now archive) ⌝ }
-    ensures { λ r. ⌜ coded r (one (now (place .exit))) ≡ given placed (selectResult (now (archive .entry)) document j) (one (now (place .entry))) ⌝ }
+    ensures { λ r. ⌜ coded r (one (now (place .exit))) ≡ given one (selectResult (now (archive .entry)) document j) (one (now (place .entry))) ⌝ }
 {
     let l = archive::layout_in(archive);
-    give::place(queries::select_opened(archive, l, document, j), place)
+    give::number(queries::select_opened(archive, l, document, j), place)
 }

@@ -16,7 +16,7 @@ use Rattle.model.specs.Rows.{height}
 use Rattle.model.specs.Format.{Library, Sizes, archiveOf}
 use Rattle.model.specs.Opening.{contents, opening, opened}
 use Rattle.model.specs.Queries as queries
-use Rattle.model.specs.Queries.{Range, ofEntries, ofTerms, Bounds, boundsOf, inRange, termStart, placeBelow, quantile, Pair, pairsInto}
+use Rattle.model.specs.Queries.{Range, ofEntries, ofTerms, Bounds, boundsOf, inRange, termStart, quantile, Pair, pairsInto}
 use Rattle.model.specs.Papers.{listed, intersection}
 use Rattle.model.specs.Demand2.{AnswersOver}
 use Rattle.model.specs.TopK.{Found, foundInto, searchResult, topK, endedOf, pairsOf, fullList}
@@ -100,9 +100,7 @@ module _ (lib : Library) (v : Valid lib) where
       entries = λ p. over (λ o. andThen o (λ y. refuse 11 (leb (length (y .entries)) p) (answered (getD (y .entries) p 0))));
       counts = λ d p.
           over (λ o. andThen o (λ y. refuse 11 (leb (y .documents) d || ltb (length (y .entries)) p) (answered (rank d (y .entries) p))));
-      places = λ d j.
-          over
-          (λ o. andThen o (λ y. refuse 11 (leb (y .documents) d || eqb j 0) (answered (placeBelow (length (y .entries)) (select d (y .entries) j)))));
+      places = λ d j. over (λ o. andThen o (λ y. refuse 11 (leb (y .documents) d || eqb j 0) (answered (select d (y .entries) j))));
       ranks = λ range r.
           over (λ o. andThen o (λ y. andThen (inRange y range) (λ xs. refuse 11 (leb (length xs) r) (answered (quantile r xs)))));
       listings = λ range answers.

@@ -7,7 +7,7 @@ use Rattle.bits.specs.Bits.{bitsOf, pack, samplesOf, samplesRight, unusedClear}
 use Rattle.model.specs.Outcome.{Outcome, answered, refused}
 use Rattle.model.specs.Format.{Library, Sizes, rowsOf, encode}
 use Rattle.model.specs.Opening.{entriesAt, opening}
-use Rattle.model.specs.Queries.{Place, place, none, ofEntries, accessResult, rankResult, selectResult, quantileResult, PairsResult, conjunctionResult, perMilleResult}
+use Rattle.model.specs.Queries.{ofEntries, accessResult, rankResult, selectResult, quantileResult, PairsResult, conjunctionResult, perMilleResult}
 use Rattle.model.specs.TopK.{Ended, doneWith, spentWith, SearchResult, greedyResult}
 
 -- ---- the small library
@@ -50,7 +50,6 @@ pub data Question : Type 0 where
 -- a lent slice holds nines; what it holds at the end is part of the reply
 pub data Reply : Type 0 where
   numberIs : Outcome ℕ → Reply
-  placeIs : Outcome Place → Reply
   pairsAre : PairsResult → Reply
   searchIs : SearchResult Ended → Reply
   openingIs : Outcome Sizes → Reply
@@ -61,7 +60,7 @@ nines n = replicate n 9
 abbrev pub ask : List ℕ → Question → Reply
 ask archive (entryAt p) = numberIs (accessResult archive p)
 ask archive (countBefore d p) = numberIs (rankResult archive d p)
-ask archive (placeOf j d) = placeIs (selectResult archive d j)
+ask archive (placeOf j d) = numberIs (selectResult archive d j)
 ask archive (ofRank r a b) = numberIs (quantileResult archive (ofEntries a b) r)
 ask archive (shortlist a b k allowance) = searchIs (greedyResult archive (ofEntries a b) k allowance (nines 8) (nines 17))
 ask archive (allOf terms) = pairsAre (conjunctionResult archive (terms ++ nines 8) (length terms) (nines 9))
@@ -103,8 +102,8 @@ answers =
     numberIs (answered 2)
     ∷ numberIs (answered 3)
     ∷ numberIs (answered 1)
-    ∷ placeIs (answered (place 7))
-    ∷ placeIs (answered none)
+    ∷ numberIs (answered 7)
+    ∷ numberIs (answered 8)
     ∷ numberIs (answered 2)
     ∷ numberIs (answered 3)
     ∷ searched 4 (doneWith 2 3) (3 ∷ 3 ∷ 0 ∷ 2 ∷ nines 4)

@@ -11,7 +11,7 @@ use Rattle.model.specs.Distinct.{distinct}
 use Rattle.model.specs.Outcome.{answered, refuse, andThen}
 use Rattle.model.specs.Rows.{height}
 use Rattle.model.specs.Format.{Library}
-use Rattle.model.specs.Queries.{Range, boundsOf, inRange, placeBelow, quantile, pairsInto, accessResult, rankResult, selectResult, rangeResult, quantileResult, listResult, conjunctionResult}
+use Rattle.model.specs.Queries.{Range, boundsOf, inRange, quantile, pairsInto, accessResult, rankResult, selectResult, rangeResult, quantileResult, listResult, conjunctionResult}
 use Rattle.model.specs.Papers.{listed, intersection}
 use Rattle.model.specs.TopK.{foundInto, topK, endedOf, pairsOf, fullList, greedyResult, probingResult}
 
@@ -23,10 +23,8 @@ pub record AnswersOver (bytes : List ℕ) (lib : Library) : Type 0 where
   -- counts: rank
   pub counts : (d p : ℕ)
       → rankResult bytes d p ≡ refuse 11 (leb (lib .documents) d || ltb (length (lib .entries)) p) (answered (rank d (lib .entries) p))
-  -- places: select
-  pub places : (d j : ℕ)
-      → selectResult bytes d j
-      ≡ refuse 11 (leb (lib .documents) d || eqb j 0) (answered (placeBelow (length (lib .entries)) (select d (lib .entries) j)))
+  -- places: select, which is n where there are fewer (M-102; `IsPlace` says what place it is)
+  pub places : (d j : ℕ) → selectResult bytes d j ≡ refuse 11 (leb (lib .documents) d || eqb j 0) (answered (select d (lib .entries) j))
   -- ranks: quantile
   pub ranks : (range : Range) (r : ℕ)
       → quantileResult bytes range r ≡ andThen (inRange lib range) (λ xs. refuse 11 (leb (length xs) r) (answered (quantile r xs)))

@@ -19,3 +19,4 @@ pub mod WeightedDemand
 pub mod Cases
 pub mod WeightedCases
 pub mod DistinctCases
+pub mod PlaceCases

@@ -11,7 +11,6 @@ use Rattle.model.specs.Distinct.{distinct}
 use Rattle.model.specs.Outcome.{Outcome, answered, refused, refuse, andThen}
 use Rattle.model.specs.Format.{Library}
 use Rattle.model.specs.Opening.{opened}
-pub use Rattle.bits.specs.Sequences.{Place, place, none, placeBelow}
 
 -- ---- one entry
 
@@ -25,11 +24,11 @@ rankResult bytes d p =
     andThen (opened bytes)
     (λ lib. refuse 11 (leb (lib .documents) d || ltb (length (lib .entries)) p) (answered (rank d (lib .entries) p)))
 
--- place of the j-th entry of a document, j from 1, or 'none'
-abbrev pub selectResult : List ℕ → ℕ → ℕ → Outcome Place
+-- place of the j-th entry of a document, j from 1. Document 02, M-102: "a missing place is one past the end", which is n
+abbrev pub selectResult : List ℕ → ℕ → ℕ → Outcome ℕ
 selectResult bytes d j =
     andThen (opened bytes)
-    (λ lib. refuse 11 (leb (lib .documents) d || eqb j 0) (answered (placeBelow (length (lib .entries)) (select d (lib .entries) j))))
+    (λ lib. refuse 11 (leb (lib .documents) d || eqb j 0) (answered (select d (lib .entries) j)))
 
 -- ---- ranges
 

@@ -1,5 +1,4 @@
 // Questions for a number, by a plain count over the list.
-use crate::outcome::NOTHING;
 use crate::outcome::NUMBER;
 use crate::outcome::Outcome;
 use crate::outcome::Question;
@@ -42,6 +41,7 @@ fn rank(entries: &[u32], l: Sizes, document: u32, place: u32) -> Outcome {
     number(occurrences(entries, document, place))
 }
 
+// The place of the j-th entry of a document; n where it has fewer.
 fn place_of(entries: &[u32], n: u32, document: u32, j: u32) -> Outcome {
     let mut seen = 0;
     let mut i = 0;
@@ -54,7 +54,7 @@ fn place_of(entries: &[u32], n: u32, document: u32, j: u32) -> Outcome {
         }
         i += 1;
     }
-    outcome_of(NOTHING, 0, 0)
+    number(n)
 }
 
 fn select(entries: &[u32], l: Sizes, document: u32, j: u32) -> Outcome {

@@ -1,15 +1,13 @@
 // What a question is and what it answers, as numbers.
 
-// What an answer is: numbers, no place, the number of a refusal, or the end of a search.
+// What an answer is: numbers, the number of a refusal, or the end of a search.
 pub const NUMBER: u32 = 0;
 
-pub const NOTHING: u32 = 1;
+pub const REFUSED: u32 = 1;
 
-pub const REFUSED: u32 = 2;
+pub const DONE: u32 = 2;
 
-pub const DONE: u32 = 3;
-
-pub const SPENT: u32 = 4;
+pub const SPENT: u32 = 3;
 
 pub struct Outcome {
     pub what: u32,

@@ -1,20 +1,19 @@
 -- What the results of model come to, for bytes that are refused and for an opened archive.
 use Prim.Native.Nat.{ℕ, _≤_, _<_}
 use native.Mathlib.Omega.{arith}
-use mathlib.Core.Path.{_≡_, refl, ap}
+use mathlib.Core.Path.{_≡_, ap}
 use mathlib.Core.List.{List}
-use mathlib.Core.Bool.{Bool, true, false, cond}
+use mathlib.Core.Bool.{true, false}
 use lib.ListN.{length, getD}
 use lib.Dec.{leb, ltb, eqb}
-use borrow.Author.Tests.{ltb-true, lt-ltb, le-ltb, le-leb, lt-leb, eq-eqb, ne-eqb}
-use Rattle.bit_select.specs.declared.Found.{Found}
+use borrow.Author.Tests.{lt-ltb, le-ltb, le-leb, lt-leb, eq-eqb, ne-eqb}
 use Rattle.bits.specs.Sequences.{rank, select}
-use Rattle.bit_select.specs.Search.{foundOf}
+use Rattle.bits.proofs.Sequences.{select-le}
 use Rattle.bits.proofs.Tests.{or-right}
 use Rattle.model.specs.Lists.{Within}
 use Rattle.model.specs.Outcome.{answered, refused}
 use Rattle.model.specs.Opening.{contents}
-use Rattle.model.specs.Queries.{place, none, placeBelow, Range, boundsOf, quantile, accessResult, rankResult, selectResult, rangeResult, quantileResult}
+use Rattle.model.specs.Queries.{Range, boundsOf, quantile, accessResult, rankResult, selectResult, rangeResult, quantileResult}
 use Rattle.model.proofs.Wavelet.Sorted.{quantile-ranked, tally-below-suc}
 use Rattle.answers.proofs.Occurrences.{occurs-lt}
 use Rattle.archive.specs.declared.Layout.{Layout}
@@ -22,14 +21,7 @@ use Rattle.archive.specs.Layout.{Opened}
 use Rattle.archive.proofs.Opened.{entries-size, documents-are}
 use Rattle.queries.specs.Ranges.{quantileOf}
 
--- ---- a place that is found
-
-pub found-lt : (n p x : ℕ) → place x ≡ placeBelow n p → x < n
-found-lt n p x = go (ltb p n) refl
-  where
-    go : (b : Bool) → ltb p n ≡ b → place x ≡ cond b (place p) none → x < n
-    go true t e = let q : x ≡ p = cc in omega (arith, ltb-true p n t)
-    go false t e = absurd (let z : _≡_ {A = ℕ} 0 1 = cc in omega arith)
+-- ---- bounds of what is answered
 
 -- the document of a rank is one of the entries
 pub quantile-lt : (N : ℕ) (xs : List ℕ) (r : ℕ) → Within N xs → r < length xs → quantile r xs < N
@@ -78,10 +70,12 @@ module _ (bytes : List ℕ) (l : Layout) (o : Opened bytes l) where
   pub select-zeroth : (d j : ℕ) → j ≡ 0 → refused 11 ≡ selectResult bytes d j
   select-zeroth d j h = rw (o .accepted, or-right (leb (contents bytes .documents) d) (eqb j 0) (eq-eqb j 0 h))
 
-  pub select-is : (d j : ℕ) (f : Found) → d < l .documents → (j ≡ 0 → ⊥) → foundOf f ≡ placeBelow n (select d xs j) → answered (foundOf f) ≡ selectResult bytes d j
-  select-is d j f h k e =
-      rw (o .accepted, a-document d h, entries-size bytes l o, ne-eqb j 0 k)
-      (ap answered e)
+  pub select-is : (d j r : ℕ) → d < l .documents → (j ≡ 0 → ⊥) → r ≡ select d xs j → answered r ≡ selectResult bytes d j
+  select-is d j r h k e = rw (o .accepted, a-document d h, ne-eqb j 0 k) (ap answered e)
+
+  -- a place is at most the end
+  pub select-fits : (d j : ℕ) → select d xs j ≤ n
+  select-fits d j = rw (entries-size bytes l o) at (select-le d xs j)
 
   -- ---- ranges
 

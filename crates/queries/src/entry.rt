@@ -1,19 +1,16 @@
 // Questions of one entry: which it is, how often a document occurs before it, where a document occurs.
 use answers::Answer;
-use answers::Placed;
 use archive::Layout;
 use archive::Opening;
 use archive::open;
-use bit_rows::Found;
 ghost use mathlib.Core.Path.{_≡_};
 ghost use Prim.Native.Nat.{_≤_, _<_};
 ghost use lib.ListN.{getD};
 ghost use Rattle.bits.specs.Sequences as sequences;
-ghost use Rattle.bit_select.specs.Search.{foundOf};
 ghost use Rattle.model.specs.Opening.{contents};
 ghost use Rattle.model.specs.Queries.{accessResult, rankResult, selectResult};
 ghost use Rattle.archive.specs.Layout.{Opened};
-ghost use Rattle.answers.specs.Answers.{numberOf, placeOf};
+ghost use Rattle.answers.specs.Answers.{numberOf};
 
 // The entry at a place.
 pub fn access_in(archive: &[u8], l: Layout, place: usize) -> usize
@@ -77,37 +74,34 @@ pub fn rank(archive: &[u8], document: u32, place: u32) -> Answer
     }
 }
 
-// The place of the j-th entry of a document, j from 1.
-pub fn select_in(archive: &[u8], l: Layout, document: usize, j: usize) -> Found
+// The place of the j-th entry of a document, j from 1; n, one past the end, where it has fewer.
+pub fn select_in(archive: &[u8], l: Layout, document: usize, j: usize) -> usize
     requires { ⌜ Opened (now archive) l ⌝ }
     requires { ⌜ (document < l .documents) × (0 < j) ⌝ }
-    ensures { λ r. ⌜ foundOf r ≡ sequences.placeBelow (l .levels .entries) (sequences.select document (contents (now (archive .entry)) .entries) j) ⌝ }
+    ensures { λ r. ⌜ r ≡ sequences.select document (contents (now (archive .entry)) .entries) j ⌝ }
 {
     wavelet_select::select(archive, l.levels, document, j)
 }
 
-pub fn select_opened(archive: &[u8], l: Layout, document: u32, j: u32) -> Placed
+pub fn select_opened(archive: &[u8], l: Layout, document: u32, j: u32) -> Answer
     requires { ⌜ Opened (now archive) l ⌝ }
-    ensures { λ r. ⌜ placeOf r ≡ selectResult (now (archive .entry)) document j ⌝ }
+    ensures { λ r. ⌜ numberOf r ≡ selectResult (now (archive .entry)) document j ⌝ }
 {
     let d = document as usize;
     if l.documents <= d {
-        return Placed::Refused(11);
+        return Answer::Refused(11);
     }
     if j == 0 {
-        return Placed::Refused(11);
+        return Answer::Refused(11);
     }
-    match select_in(archive, l, d, j as usize) {
-        Found::At(p) => Placed::At(p as u32),
-        Found::Nothing => Placed::Nothing,
-    }
+    Answer::Number(select_in(archive, l, d, j as usize) as u32)
 }
 
-pub fn select(archive: &[u8], document: u32, j: u32) -> Placed
-    ensures { λ r. ⌜ placeOf r ≡ selectResult (now (archive .entry)) document j ⌝ }
+pub fn select(archive: &[u8], document: u32, j: u32) -> Answer
+    ensures { λ r. ⌜ numberOf r ≡ selectResult (now (archive .entry)) document j ⌝ }
 {
     match open(archive) {
         Opening::Accepted(l) => select_opened(archive, l, document, j),
-        Opening::Refused(number) => Placed::Refused(number),
+        Opening::Refused(number) => Answer::Refused(number),
     }
 }

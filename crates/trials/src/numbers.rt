@@ -5,9 +5,7 @@ use crate::random::draw;
 use crate::random::near;
 use crate::random::two_ends;
 use answers::Answer;
-use answers::Placed;
 use archive_ranges::Range;
-use plain::outcome::NOTHING;
 use plain::outcome::NUMBER;
 use plain::outcome::Outcome;
 use plain::outcome::Question;
@@ -27,14 +25,6 @@ pub fn answered(found: Answer) -> Outcome {
     }
 }
 
-fn placed(found: Placed) -> Outcome {
-    match found {
-        Placed::At(p) => number(p),
-        Placed::Nothing => outcome_of(NOTHING, 0, 0),
-        Placed::Refused(x) => refused(x),
-    }
-}
-
 fn ranged(found: Range) -> Outcome {
     match found {
         Range::Entries { from, to } => outcome_of(NUMBER, from, to),
@@ -47,7 +37,7 @@ fn asked(archive: &[u8], q: Question) -> Outcome {
     match kind {
         3 => answered(queries::access(archive, q.a)),
         4 => answered(queries::rank(archive, q.a, q.b)),
-        5 => placed(queries::select(archive, q.a, q.b)),
+        5 => answered(queries::select(archive, q.a, q.b)),
         6 => answered(queries::quantile(archive, q.a, q.b, q.c)),
         7 => answered(queries::quantile_terms(archive, q.a, q.b, q.c)),
         8 => ranged(queries::range_of_terms(archive, q.a, q.b)),

@@ -11,17 +11,13 @@ use lib.ListN.{length}
 use lib.Seq.{take-length}
 use lib.Dec.{eqb, ltb}
 use borrow.Author.Tests.{lt-ltb, le-ltb}
-use Rattle.bits.specs.Sequences.{occurrences, rank, select, Place, place, none, placeBelow}
-use Rattle.bit_select.specs.Search.{foundOf, placeOr}
-use Rattle.bit_select.specs.declared.Found.{Found}
+use Rattle.bits.specs.Sequences.{occurrences, rank, select}
+use Rattle.bits.proofs.Sequences.{select-ge, select-none}
 use Rattle.model.specs.Walk.{left, rankFrom, selectFrom}
 use Rattle.model.proofs.Wavelet.Counts.{right-end, zeros-front}
 use Rattle.model.proofs.Wavelet.Rank.{rank-walk}
-use Rattle.model.proofs.Wavelet.Rows.{row-length, row-below}
-use Rattle.bits.proofs.Sequences.{select-le, select-ge, select-none, select-stands}
-use Rattle.bit_select.proofs.Search.{found-place}
-use Rattle.model.proofs.Wavelet.Rows.{rows-of}
-use Rattle.model.proofs.Wavelet.Select.{select-walk}
+use Rattle.model.proofs.Wavelet.Rows.{row-length, row-below, rows-of}
+use Rattle.model.proofs.Wavelet.Select.{select-walk, select-inside}
 use Rattle.wavelet.specs.declared.Levels.{Levels}
 use Rattle.wavelet.specs.Levels.{entriesIn, levelOf}
 use Rattle.wavelet_select.specs.Places.{upFromHalf, offsetFrom}
@@ -32,19 +28,15 @@ pub picked : (b : Bool) (s m e : ℕ) → s ≤ m → m ≤ e → (s ≤ cond b 
 picked true s m e a c = omega arith
 picked false s m e a c = omega arith
 
+-- a half with a place x has a node with entries
+pub half-filled : {s from to e n x : ℕ} → s ≤ from → to ≤ e → e ≤ n → x < to - from → (s < e) × (x ≤ n)
+half-filled a b c l = omega arith
+
 -- ---- places on the way up
 
 module _ (bytes : List ℕ) (t : Levels) (j : ℕ) (l : j < t .height) where
   level-length : length (levelOf bytes t j) ≡ t .entries
   level-length = row-length (t .height) j (entriesIn bytes t) (le-of-lt l) (within-entriesIn bytes t) ∙ length-entriesIn bytes t
-
-  pub select-inside : (v i : ℕ) → select v (levelOf bytes t j) i ≤ t .entries
-  select-inside v i = rw level-length at (select-le v (levelOf bytes t j) i)
-
-  -- the place that a search answers
-  pub placed : (v i : ℕ) (f : Found) (r : ℕ) → foundOf f ≡ placeBelow (t .entries) (select v (levelOf bytes t j) i) → r ≡ placeOr f (t .entries)
-      → r ≡ select v (levelOf bytes t j) i
-  placed v i f r p q = q ∙ found-place (t .entries) (select v (levelOf bytes t j) i) f (select-inside v i) p
 
   pub one-after : (s k : ℕ) → s ≤ t .entries → s ≤ select 1 (levelOf bytes t j) (rank 1 (levelOf bytes t j) s + k + 1)
   one-after s k m =
@@ -62,16 +54,6 @@ module _ (bytes : List ℕ) (t : Levels) (j : ℕ) (l : j < t .height) where
 
 -- ---- the walk
 
--- an offset in a half, carried up into the node
-raise : (ℕ → ℕ) → Place → Place
-raise f (place p) = place (f p)
-raise f none = none
-
-raise-cond : (f : ℕ → ℕ) (b : Bool) (x : ℕ) → raise f (cond b (place x) none) ≡ cond b (place (f x)) none
-unfolding raise
-raise-cond f true x = refl
-raise-cond f false x = refl
-
 module _ (bytes : List ℕ) (t : Levels) (d j s e k : ℕ) where
   abbrev h : ℕ
   h = t .height
@@ -80,7 +62,7 @@ module _ (bytes : List ℕ) (t : Levels) (d j s e k : ℕ) where
   rows = levelOf bytes t
 
   -- at the leaf
-  pub offset-end : j ≡ h → placeBelow (e - s) k ≡ offsetFrom rows d (h - j) j s e k
+  pub offset-end : j ≡ h → cond (ltb k (e - s)) k (e - s) ≡ offsetFrom rows d (h - j) j s e k
   offset-end p =
       let z : 0 ≡ h - j = omega arith in
       ap (λ (m : ℕ). offsetFrom rows d m j s e k) z
@@ -118,19 +100,43 @@ module _ (bytes : List ℕ) (t : Levels) (d j s e k : ℕ) where
         go false f =
             rw (top, f) (ap (λ (m : ℕ). select 0 (rows j) ((s - rank 1 (rows j) s) + selectFrom rows d (h - suc j) (suc j) s m k + 1) - s) q)
 
-    offset-next : raise (upFromHalf (rows j) s bit) (offsetFrom rows d (h - (j + 1)) (j + 1) s' e' k) ≡ offsetFrom rows d (h - j) j s e k
-    offset-next =
-        rw (add-one j)
-        (raise-cond (upFromHalf (rows j) s bit) (ltb k (rankFrom rows d (h - suc j) (suc j) s' e' e')) (selectFrom rows d (h - suc j) (suc j) s' e' k)
-        ∙ (λ i. cond (ltb k (count-next i)) (place (place-next i)) none))
+    -- what the half from `from` to `to` answers is x: one of its entries stands inside it, and its end says that it has none
+    module _ (from to : ℕ) (u : from ≡ s') (w : to ≡ e') (order : from ≤ to) (bound : to ≤ t .entries) (x : ℕ) (f : x ≡ offsetFrom rows d (h - (j + 1)) (j + 1) from to k) where
+      abbrev count : ℕ
+      count = rankFrom rows d (h - suc j) (suc j) from to to
 
-    pub offset-none : none ≡ offsetFrom rows d (h - (j + 1)) (j + 1) s' e' k → none ≡ offsetFrom rows d (h - j) j s e k
-    unfolding raise
-    offset-none f = ap (raise (upFromHalf (rows j) s bit)) f ∙ offset-next
+      abbrev offset : ℕ
+      offset = selectFrom rows d (h - suc j) (suc j) from to k
 
-    pub offset-some : (x : ℕ) → place x ≡ offsetFrom rows d (h - (j + 1)) (j + 1) s' e' k → place (upFromHalf (rows j) s bit x) ≡ offsetFrom rows d (h - j) j s e k
-    unfolding raise
-    offset-some x f = ap (raise (upFromHalf (rows j) s bit)) f ∙ offset-next
+      same-count : count ≡ rankFrom rows d (h - j) j s e e
+      same-count = (λ i. rankFrom rows d (h - suc j) (suc j) (u i) (w i) (w i)) ∙ count-next
+
+      same-place : upFromHalf (rows j) s bit offset ≡ selectFrom rows d (h - j) j s e k
+      same-place = (λ i. upFromHalf (rows j) s bit (selectFrom rows d (h - suc j) (suc j) (u i) (w i) k)) ∙ place-next
+
+      answer : x ≡ cond (ltb k count) offset (to - from)
+      answer = rw (add-one j) at f
+
+      inside : k < count → offset < to - from
+      inside =
+          select-inside (rows-of h (entriesIn bytes t) (within-entriesIn bytes t)) d k (h - suc j) (suc j) (omega arith) from to order
+          (omega (arith, length-entriesIn bytes t))
+
+      pub offset-none : x ≡ to - from → e - s ≡ offsetFrom rows d (h - j) j s e k
+      offset-none a = rw (← same-count) (go (decLe (suc k) count))
+        where
+          go : Dec (k < count) → e - s ≡ cond (ltb k count) (selectFrom rows d (h - j) j s e k) (e - s)
+          go (yes b) = absurd (let y : x ≡ offset = rw (lt-ltb k count b) at answer in omega (arith, inside b))
+          go (no b) = rw (le-ltb k count (omega arith))
+
+      pub offset-some : (x ≡ to - from → ⊥) → (x < to - from) × (upFromHalf (rows j) s bit x ≡ offsetFrom rows d (h - j) j s e k)
+      offset-some a = rw (← same-count) (go (decLe (suc k) count))
+        where
+          go : Dec (k < count) → (x < to - from) × (upFromHalf (rows j) s bit x ≡ cond (ltb k count) (selectFrom rows d (h - j) j s e k) (e - s))
+          go (yes b) =
+              let y : x ≡ offset = rw (lt-ltb k count b) at answer in
+              (omega (arith, inside b), rw (lt-ltb k count b) (ap (upFromHalf (rows j) s bit) y ∙ same-place))
+          go (no b) = absurd (a (rw (le-ltb k count (omega arith)) at answer))
 
 -- ---- from the root
 
@@ -147,23 +153,14 @@ module _ (bytes : List ℕ) (t : Levels) (d i : ℕ) (m : d < 2 ^ t .height) (l 
       ∙ rank-walk (rows-of (t .height) xs (within-entriesIn bytes t)) d (length xs) m (omega arith)
       ∙ ap (occurrences d) (take-length xs)
 
-  absent : occurrences d xs < i → none ≡ placeBelow n (select d xs i)
-  absent o =
-      let e = select-none d xs i o ∙ length-entriesIn bytes t in
-      rw (e, le-ltb n n (omega arith))
-
-  present : i ≤ occurrences d xs → place (selectFrom (levelOf bytes t) d (t .height - 0) 0 0 n (i - 1)) ≡ placeBelow n (select d xs i)
-  present o =
-      let p = select-stands d xs i l o .inside in
-      rw (lt-ltb (select d xs i) n (rw (length-entriesIn bytes t) at p))
-      (ap place
-      ((λ k. selectFrom (levelOf bytes t) d (sub-zero (t .height) k) 0 0 (sym (length-entriesIn bytes t) k) (i - 1))
-      ∙ select-walk (rows-of (t .height) xs (within-entriesIn bytes t)) d i l o))
-
-  pub select-root : offsetFrom (levelOf bytes t) d (t .height - 0) 0 0 n (i - 1) ≡ placeBelow n (select d xs i)
+  pub select-root : offsetFrom (levelOf bytes t) d (t .height - 0) 0 0 n (i - 1) ≡ select d xs i
   select-root = rw all-occurrences (go (decLe i (occurrences d xs)))
     where
-      go : Dec (i ≤ occurrences d xs)
-          → cond (ltb (i - 1) (occurrences d xs)) (place (selectFrom (levelOf bytes t) d (t .height - 0) 0 0 n (i - 1))) none ≡ placeBelow n (select d xs i)
-      go (yes o) = rw (lt-ltb (i - 1) (occurrences d xs) (omega arith)) (present o)
-      go (no o) = rw (le-ltb (i - 1) (occurrences d xs) (omega arith)) (absent (omega arith))
+      go : Dec (i ≤ occurrences d xs) → cond (ltb (i - 1) (occurrences d xs)) (selectFrom (levelOf bytes t) d (t .height - 0) 0 0 n (i - 1)) (n - 0) ≡ select d xs i
+      go (yes o) =
+          rw (lt-ltb (i - 1) (occurrences d xs) (omega arith))
+          ((λ k. selectFrom (levelOf bytes t) d (sub-zero (t .height) k) 0 0 (sym (length-entriesIn bytes t) k) (i - 1))
+          ∙ select-walk (rows-of (t .height) xs (within-entriesIn bytes t)) d i l o)
+      go (no o) =
+          rw (le-ltb (i - 1) (occurrences d xs) (omega arith))
+          (sub-zero n ∙ sym (select-none d xs i (omega arith) ∙ length-entriesIn bytes t))

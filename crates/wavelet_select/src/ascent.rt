@@ -1,19 +1,16 @@
 // Select: down by the bits of a document to its leaf, and up by the places of bits.
 use crate::level::select_one;
 use crate::level::select_zero;
-use bit_rows::Found;
-use bit_rows::place_or;
 use wavelet::Levels;
 use wavelet::ones;
 use wavelet::ones_from;
 ghost use mathlib.Core.Path.{_≡_};
 ghost use mathlib.Core.Bool.{cond};
 ghost use Prim.Native.Nat.{_+_, _-_, _^_, _≤_, _<_};
-ghost use lib.Dec.{eqb};
+ghost use lib.Dec.{eqb, ltb};
 ghost use Rattle.bits.specs.Sequences as sequences;
-ghost use Rattle.bit_select.specs.Search.{foundOf, placeOr};
 ghost use Rattle.wavelet.specs.Levels.{Stored, entriesIn, levelOf};
-ghost use Rattle.wavelet_select.specs.Places.{found, upFromHalf, offsetFrom};
+ghost use Rattle.wavelet_select.specs.Places.{upFromHalf, offsetFrom};
 
 // The first number where the bit is 1, else the other.
 fn pick(bit: usize, x: usize, y: usize) -> usize
@@ -36,35 +33,24 @@ fn up(
     requires { ⌜ Stored (now bytes) t ⌝ }
     requires { ⌜ (j < t .height) × (start < end) × (end ≤ t .entries) × (k ≤ t .entries) ⌝ }
     requires { ⌜ (before ≡ sequences.rank 1 (levelOf (now bytes) t j) start) × (before ≤ start) ⌝ }
-    ensures { λ r. ⌜ (r ≡ upFromHalf (levelOf (now (bytes .entry)) t j) start bit k) × (r ≤ t .entries) ⌝ }
+    ensures { λ r. ⌜ r ≡ upFromHalf (levelOf (now (bytes .entry)) t j) start bit k ⌝ }
 {
     if bit == 1 {
-        place_or(
-            select_one(bytes, t, j, start, end, before + k + 1),
-            t.entries,
-        )
-            - start
+        select_one(bytes, t, j, start, end, before + k + 1) - start
     } else {
-        place_or(
-            select_zero(bytes, t, j, start, end, start - before + k + 1),
-            t.entries,
-        )
-            - start
+        select_zero(bytes, t, j, start, end, start - before + k + 1) - start
     }
 }
 
-// Place k of a leaf, where it has so many entries.
-fn at_leaf(k: usize, size: usize) -> Found
-    ensures { λ r. ⌜ (foundOf r ≡ sequences.placeBelow size k) × (placeOr r 0 ≤ size) × (found r ≤ size) ⌝ }
+// Place k of a leaf; the leaf's end where it has no more than k entries.
+fn at_leaf(k: usize, size: usize) -> usize
+    ensures { λ r. ⌜ r ≡ cond (ltb k size) k size ⌝ }
 {
-    if k < size {
-        Found::At(k)
-    } else {
-        Found::Nothing
-    }
+    if k < size { k } else { size }
 }
 
-// How far into its node, from start to end in level j, the entry d stands that has k like it before it. Rows that remain fall at each call.
+// How far into its node, from start to end in level j, the entry d stands that has k like it before it; the node's size where it has none: the end of
+// a half is no place in it, and becomes the end of the node. Rows that remain fall at each call.
 fn offset_of(
     bytes: &[u8],
     t: Levels,
@@ -73,11 +59,10 @@ fn offset_of(
     start: usize,
     end: usize,
     k: usize,
-) -> Found
+) -> usize
     requires { ⌜ Stored (now bytes) t ⌝ }
     requires { ⌜ (j ≤ t .height) × (start ≤ end) × (end ≤ t .entries) ⌝ }
-    ensures { λ r. ⌜ foundOf r ≡ offsetFrom (levelOf (now (bytes .entry)) t) d (t .height - j) j start end k ⌝ }
-    ensures { λ r. ⌜ (placeOr r 0 ≤ t .entries) × (start + found r ≤ end) ⌝ }
+    ensures { λ r. ⌜ r ≡ offsetFrom (levelOf (now (bytes .entry)) t) d (t .height - j) j start end k ⌝ }
 {
     if j == t.height {
         return at_leaf(k, end - start);
@@ -87,17 +72,18 @@ fn offset_of(
     let bit = (d >> (t.height - 1 - j)) % 2;
     let from = pick(bit, middle, start);
     let to = pick(bit, end, middle);
-    let Found::At(below) = offset_of(bytes, t, d, j + 1, from, to, k) else {
-        return Found::Nothing;
-    };
-    Found::At(up(bytes, t, j, start, end, before, bit, below))
+    let below = offset_of(bytes, t, d, j + 1, from, to, k);
+    if below == to - from {
+        return end - start;
+    }
+    up(bytes, t, j, start, end, before, bit, below)
 }
 
-// The place of the i-th entry d, i from 1.
-pub fn select(bytes: &[u8], t: Levels, d: usize, i: usize) -> Found
+// The place of the i-th entry d, i from 1; the end where there are fewer.
+pub fn select(bytes: &[u8], t: Levels, d: usize, i: usize) -> usize
     requires { ⌜ Stored (now bytes) t ⌝ }
     requires { ⌜ (d < 2 ^ t .height) × (0 < i) ⌝ }
-    ensures { λ r. ⌜ foundOf r ≡ sequences.placeBelow (t .entries) (sequences.select d (entriesIn (now (bytes .entry)) t) i) ⌝ }
+    ensures { λ r. ⌜ r ≡ sequences.select d (entriesIn (now (bytes .entry)) t) i ⌝ }
 {
     offset_of(bytes, t, d, 0, 0, t.entries, i - 1)
 }

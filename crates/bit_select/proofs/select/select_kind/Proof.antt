@@ -4,7 +4,7 @@ use native.Mathlib.Omega.{arith}
 use borrow.Author.Needs.{needs}
 use Rattle.bits.specs.Bits.{bitsOf}
 use Rattle.bits.specs.Rows.{countBelow}
-use Rattle.bits.specs.Sequences.{select, placeBelow}
+use Rattle.bits.specs.Sequences.{select}
 use Rattle.bits.proofs.Bits.{count-zero}
 use Rattle.bit_select.proofs.Search.{found-zero, found-none}
 use Rattle.bit_select.proofs.select.select_kind.Statement.{statement}
@@ -16,14 +16,14 @@ returns c =
     let n = s .args .n in
     let row = s .args .row .now in
     let v = s .args .v in
-    sym (ap (λ (j : ℕ). placeBelow n (select v (bitsOf n row) j)) (c .if1 .taken) ∙ found-zero v n row)
+    sym (ap (λ (j : ℕ). select v (bitsOf n row) j) (c .if1 .taken) ∙ found-zero v n row)
 
 returns-2 : tie.Need-returns-2
 returns-2 c =
     let s = c .before .before .before .before in
     let row = s .args .row .now in
     let v = s .args .v in
-    sym (found-none v (s .args .n) row (s .args .j) (omega (arith, ap (countBelow v row) (c .if2 .taken), count-zero v row)))
+    sym (found-none v (s .args .n) row (s .args .j) (omega (arith, ap (countBelow v row) (c .if2 .taken), count-zero v row)) ∙ c .if2 .taken)
 
 add-select-blocks : tie.Need-add-select-blocks
 add-select-blocks c = search needs

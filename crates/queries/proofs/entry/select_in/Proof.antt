@@ -3,7 +3,7 @@ use Prim.Native.Nat.{ℕ}
 use native.Mathlib.Omega.{arith}
 use mathlib.Core.Path.{ap, _∙_}
 use mathlib.Core.List.{List}
-use Rattle.bits.specs.Sequences.{select, placeBelow}
+use Rattle.bits.specs.Sequences.{select}
 use Rattle.queries.proofs.entry.select_in.Statement.{statement}
 use Rattle.queries.proofs.entry.select_in.Tie as tie
 
@@ -17,7 +17,7 @@ returns : tie.Need-returns
 returns c =
     let s = c .before .before in
     let g = s .args in
-    c .select .ensures ∙ ap (λ (xs : List ℕ). placeBelow (g .l .levels .entries) (select (g .document) xs (g .j))) (entries-are (g .archive .now) (g .l) (s .pre .0))
+    c .select .ensures ∙ ap (λ (xs : List ℕ). select (g .document) xs (g .j)) (entries-are (g .archive .now) (g .l) (s .pre .0))
 
 pub select-in-spec : {M : Type 1} → statement M
 select-in-spec = tie.close (tie.spec select-requires returns)

@@ -1,17 +1,13 @@
 use borrow.Author.Needs.{needs}
-use Prim.Native.Nat.{ℕ, _+_, _-_, _/_, _%_, _^_, _≤_, _<_}
+use Prim.Native.Nat.{ℕ, _-_, _/_, _%_, _^_, _≤_, _<_}
 use native.Mathlib.Omega.{arith}
-use mathlib.Core.Path.{_≡_, refl, ap, _∙_}
+use mathlib.Core.Path.{refl, _∙_}
 use mathlib.Core.List.{List}
 use lib.Dec.{eqb}
-use Rattle.bit_select.specs.Search.{foundOf}
-use Rattle.bits.specs.Sequences.{place}
-use Rattle.bit_select.specs.declared.Found.the-variants.{At, Nothing}
 use Rattle.model.proofs.Wavelet.Counts.{left-le}
 use Rattle.wavelet.specs.Levels.{levelOf}
-use Rattle.wavelet_select.specs.Places.{offsetFrom}
 use Rattle.wavelet.proofs.Spans.{left-is}
-use Rattle.wavelet_select.proofs.Places.{picked, offset-end, offset-none, offset-some}
+use Rattle.wavelet_select.proofs.Places.{picked, half-filled, offset-end, offset-none, offset-some}
 use borrow.Fn.Kinds.{In}
 use borrow.Fn.PlainCycle.{Measures, is, falls, and}
 use Rattle.wavelet_select.proofs.ascent.offset_of.Reads as offset-of
@@ -62,7 +58,7 @@ offset-of-returns : (t : ℕ) → offset-of-lts.Need-returns (offset-of-calls t)
 offset-of-returns t c =
     let s = c .before .before .before .before in
     let g = s .args in
-    (c .at-leaf .ensures .0 ∙ offset-end (g .bytes .now) (g .t) (g .d) (g .j) (g .start) (g .end) (g .k) (c .before .if1 .taken), (omega arith, omega arith))
+    c .at-leaf .ensures ∙ offset-end (g .bytes .now) (g .t) (g .d) (g .j) (g .start) (g .end) (g .k) (c .before .if1 .taken)
 
 offset-of-ones-requires : (t : ℕ) → offset-of-lts.Need-ones-requires (offset-of-calls t) (offset-of-at t) offset-of.Post
 offset-of-ones-requires t c κs = search needs
@@ -116,66 +112,57 @@ offset-of-offset-of-requires t c κs =
     let p = offset-of-inside t c in
     (omega arith, (s .pre .1 .0, (omega arith, p .1, omega arith)))
 
-offset-of-enum-known-below : (t : ℕ) → offset-of-lts.Need-enum-known-below (offset-of-calls t) (offset-of-at t) offset-of.Post
-offset-of-enum-known-below t c = search needs
+offset-of-sub-if2 : (t : ℕ) → offset-of-lts.Need-sub-if2 (offset-of-calls t) (offset-of-at t) offset-of.Post
+offset-of-sub-if2 t c =
+    let p = offset-of-inside t (c .before) in
+    omega arith
 
-offset-of-enum-told : (t : ℕ) → offset-of-lts.Need-enum-told (offset-of-calls t) (offset-of-at t) offset-of.Post
-offset-of-enum-told t c = search needs
+offset-of-sub-result : (t : ℕ) → offset-of-lts.Need-sub-result (offset-of-calls t) (offset-of-at t) offset-of.Post
+offset-of-sub-result t c =
+    let p = offset-of-inside t (c .before .before) in
+    omega arith
 
 offset-of-returns-2 : (t : ℕ) → offset-of-lts.Need-returns-2 (offset-of-calls t) (offset-of-at t) offset-of.Post
 offset-of-returns-2 t c =
-    let k = c .before .before .before .before .before .before in
+    let o = c .before in
+    let k = o .before .before .before .before in
     let s = k .before .before .before .before .before in
     let g = s .args in
-    let bits : List ℕ = levelOf (g .bytes .now) (g .t) (g .j) in
     let l = s .pre .1 .1 .1 in
-    let m = left-is bits (g .start) (g .end) (k .before .ones .result) (k .ones-from .result) l (k .before .ones .ensures .0) (k .ones-from .ensures .0) in
+    let m = left-is (levelOf (g .bytes .now) (g .t) (g .j)) (g .start) (g .end) (k .before .ones .result) (k .ones-from .result) l (k .before .ones .ensures .0) (k .ones-from .ensures .0) in
     let mid : ℕ = g .end - (k .ones-from .result - k .before .ones .result) in
-    let e : Nothing ≡ c .before .before .offset-of .result = cc in (
-      offset-none (g .bytes .now) (g .t) (g .d) (g .j) (g .start) (g .end) (g .k) (omega arith) l (g .d / 2 ^ (g .t .height - 1 - g .j) % 2) mid refl m
-          (ap foundOf e ∙ c .before .before .offset-of .ensures .0
-          ∙ (λ i. offsetFrom (levelOf (g .bytes .now) (g .t)) (g .d) (g .t .height - (g .j + 1)) (g .j + 1) (c .before .before .before .before .pick .ensures i)
-          (c .before .before .before .pick2 .ensures i) (g .k))),
-      (omega arith, omega arith),
-    )
-
--- what the half has
-offset-of-found : (t : ℕ) (c : offset-of-lts.After-known-told (offset-of-calls t) (offset-of-at t) offset-of.Post) → At (c .before .below .given .0 .0) ≡ c .before .before .before .offset-of .result
-offset-of-found t c = cc
-
--- so the node has entries
-offset-of-filled : (t : ℕ) (c : offset-of-lts.After-known-told (offset-of-calls t) (offset-of-at t) offset-of.Post)
-    → c .before .before .before .before .before .before .before .before .before .before .before .before .args .start
-    < c .before .before .before .before .before .before .before .before .before .before .before .before .args .end
-offset-of-filled t c =
-    let f = rw (← (offset-of-found t c)) at (c .before .before .before .offset-of .ensures .1 .1) in
-    let p = offset-of-inside t (c .before .before .before .before) in
-    omega arith
+    let p = offset-of-inside t (o .before) in
+    offset-none (g .bytes .now) (g .t) (g .d) (g .j) (g .start) (g .end) (g .k) (omega arith) l (g .d / 2 ^ (g .t .height - 1 - g .j) % 2) mid refl m
+    (o .before .before .pick .result) (o .before .pick2 .result) (o .before .before .pick .ensures) (o .before .pick2 .ensures) (p .1) (omega arith) (o .offset-of .result) (o .offset-of .ensures) (c .if2 .taken)
 
 offset-of-up-requires : (t : ℕ) → offset-of-lts.Need-up-requires (offset-of-calls t) (offset-of-at t) offset-of.Post
 offset-of-up-requires t c κs =
-    let k = c .before .before .before .before .before .before .before in
+    let o = c .before in
+    let k = o .before .before .before .before in
     let s = k .before .before .before .before .before in
-    let b = rw (← (offset-of-found t c)) at (c .before .before .before .offset-of .ensures .1 .0) in
-    (s .pre .1 .0, ((omega arith, offset-of-filled t c, s .pre .1 .1 .2, b), (k .before .ones .ensures .0, k .before .ones .ensures .1)))
+    let g = s .args in
+    let l = s .pre .1 .1 .1 in
+    let m = left-is (levelOf (g .bytes .now) (g .t) (g .j)) (g .start) (g .end) (k .before .ones .result) (k .ones-from .result) l (k .before .ones .ensures .0) (k .ones-from .ensures .0) in
+    let mid : ℕ = g .end - (k .ones-from .result - k .before .ones .result) in
+    let p = offset-of-inside t (o .before) in
+    let f = offset-some (g .bytes .now) (g .t) (g .d) (g .j) (g .start) (g .end) (g .k) (omega arith) l (g .d / 2 ^ (g .t .height - 1 - g .j) % 2) mid refl m
+    (o .before .before .pick .result) (o .before .pick2 .result) (o .before .before .pick .ensures) (o .before .pick2 .ensures) (p .1) (omega arith) (o .offset-of .result) (o .offset-of .ensures) (c .if2 .left) .0 in
+    let q = half-filled (p .0) (p .2) (s .pre .1 .1 .2) f in
+    (s .pre .1 .0, ((omega arith, q .0, s .pre .1 .1 .2, q .1), (k .before .ones .ensures .0, k .before .ones .ensures .1)))
 
 offset-of-returns-3 : (t : ℕ) → offset-of-lts.Need-returns-3 (offset-of-calls t) (offset-of-at t) offset-of.Post
 offset-of-returns-3 t c =
-    let k = c .before .before .before .before .before .before .before .before in
+    let o = c .before .before in
+    let k = o .before .before .before .before in
     let s = k .before .before .before .before .before in
     let g = s .args in
-    let bits : List ℕ = levelOf (g .bytes .now) (g .t) (g .j) in
     let l = s .pre .1 .1 .1 in
-    let m = left-is bits (g .start) (g .end) (k .before .ones .result) (k .ones-from .result) l (k .before .ones .ensures .0) (k .ones-from .ensures .0) in
-    let mid : ℕ = g .end - (k .ones-from .result - k .before .ones .result) in (
-      ap place (c .up .ensures .0)
-          ∙ offset-some (g .bytes .now) (g .t) (g .d) (g .j) (g .start) (g .end) (g .k) (omega arith) l (g .d / 2 ^ (g .t .height - 1 - g .j) % 2) mid refl m
-          (c .before .before .below .given .0 .0)
-          (ap foundOf (offset-of-found t (c .before)) ∙ c .before .before .before .before .offset-of .ensures .0
-          ∙ (λ i. offsetFrom (levelOf (g .bytes .now) (g .t)) (g .d) (g .t .height - (g .j + 1)) (g .j + 1) (c .before .before .before .before .before .before .pick .ensures i)
-          (c .before .before .before .before .before .pick2 .ensures i) (g .k))),
-      (c .up .ensures .1, omega (arith, offset-of-filled t (c .before))),
-    )
+    let m = left-is (levelOf (g .bytes .now) (g .t) (g .j)) (g .start) (g .end) (k .before .ones .result) (k .ones-from .result) l (k .before .ones .ensures .0) (k .ones-from .ensures .0) in
+    let mid : ℕ = g .end - (k .ones-from .result - k .before .ones .result) in
+    let p = offset-of-inside t (o .before) in
+    c .up .ensures
+    ∙ offset-some (g .bytes .now) (g .t) (g .d) (g .j) (g .start) (g .end) (g .k) (omega arith) l (g .d / 2 ^ (g .t .height - 1 - g .j) % 2) mid refl m
+    (o .before .before .pick .result) (o .before .pick2 .result) (o .before .before .pick .ensures) (o .before .pick2 .ensures) (p .1) (omega arith) (o .offset-of .result) (o .offset-of .ensures) (c .before .if2 .left) .1
 
 pub +offset-of-spec : {M : Type 1} → statement M
 +offset-of-spec = close μ-offset-of λ t. offset-of-lts.spec (offset-of-calls t)
@@ -195,8 +182,8 @@ pub +offset-of-spec : {M : Type 1} → statement M
     (offset-of-pick-requires-2 t)
     (offset-of-add-offset-of t)
     (offset-of-offset-of-requires t)
-    (offset-of-enum-known-below t)
-    (offset-of-enum-told t)
+    (offset-of-sub-if2 t)
+    (offset-of-sub-result t)
     (offset-of-returns-2 t)
     (offset-of-up-requires t)
     (offset-of-returns-3 t)

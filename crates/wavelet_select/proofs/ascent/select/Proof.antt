@@ -14,7 +14,7 @@ returns : tie.Need-returns
 returns c =
     let s = c .before .before in
     let g = s .args in
-    c .offset-of .ensures .0 ∙ select-root (g .bytes .now) (g .t) (g .d) (g .i) (s .pre .1 .0) (s .pre .1 .1)
+    c .offset-of .ensures ∙ select-root (g .bytes .now) (g .t) (g .d) (g .i) (s .pre .1 .0) (s .pre .1 .1)
 
 pub select-spec : {M : Type 1} → statement M
 select-spec = tie.close (tie.spec sub-offset-of offset-of-requires returns)

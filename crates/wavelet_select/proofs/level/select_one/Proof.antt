@@ -3,7 +3,7 @@ use mathlib.Core.Path.{sym, ap, _∙_}
 use mathlib.Core.List.{List}
 use Prim.Native.Nat.{ℕ}
 use Rattle.bits.specs.Bits.{bitsOf}
-use Rattle.bits.specs.Sequences.{select, placeBelow}
+use Rattle.bits.specs.Sequences.{select}
 use Rattle.wavelet.proofs.Stored.{sampled, level-is}
 use Rattle.wavelet_select.proofs.level.select_one.Statement.{statement}
 use Rattle.wavelet_select.proofs.level.select_one.Tie as tie
@@ -28,8 +28,8 @@ returns c =
     let s = c .before .before .before .before in
     let n = s .args .t .entries in
     c .select1-near .ensures
-    ∙ ap (λ (l : List ℕ). placeBelow n (select 1 (bitsOf n l) (s .args .i))) (c .before .row-at .ensures)
-    ∙ ap (λ (l : List ℕ). placeBelow n (select 1 l (s .args .i))) (sym (level-is (s .args .bytes .now) (s .args .t) (s .args .j) (s .pre .1 .0)))
+    ∙ ap (λ (l : List ℕ). select 1 (bitsOf n l) (s .args .i)) (c .before .row-at .ensures)
+    ∙ ap (λ (l : List ℕ). select 1 l (s .args .i)) (sym (level-is (s .args .bytes .now) (s .args .t) (s .args .j) (s .pre .1 .0)))
 
 pub select-one-spec : {M : Type 1} → statement M
 select-one-spec = tie.close (tie.spec samples-at-requires row-at-requires select1-near-requires returns)

@@ -3,7 +3,7 @@ use mathlib.Core.Path.{sym, ap, _∙_}
 use mathlib.Core.List.{List}
 use Prim.Native.Nat.{ℕ}
 use Rattle.bits.specs.Bits.{bitsOf}
-use Rattle.bits.specs.Sequences.{select, placeBelow}
+use Rattle.bits.specs.Sequences.{select}
 use Rattle.wavelet.proofs.Stored.{sampled, level-is}
 use Rattle.wavelet_select.proofs.level.select_zero.Statement.{statement}
 use Rattle.wavelet_select.proofs.level.select_zero.Tie as tie
@@ -28,8 +28,8 @@ returns c =
     let s = c .before .before .before .before in
     let n = s .args .t .entries in
     c .select0-near .ensures
-    ∙ ap (λ (l : List ℕ). placeBelow n (select 0 (bitsOf n l) (s .args .i))) (c .before .row-at .ensures)
-    ∙ ap (λ (l : List ℕ). placeBelow n (select 0 l (s .args .i))) (sym (level-is (s .args .bytes .now) (s .args .t) (s .args .j) (s .pre .1 .0)))
+    ∙ ap (λ (l : List ℕ). select 0 (bitsOf n l) (s .args .i)) (c .before .row-at .ensures)
+    ∙ ap (λ (l : List ℕ). select 0 l (s .args .i)) (sym (level-is (s .args .bytes .now) (s .args .t) (s .args .j) (s .pre .1 .0)))
 
 pub select-zero-spec : {M : Type 1} → statement M
 select-zero-spec = tie.close (tie.spec samples-at-requires row-at-requires select0-near-requires returns)
