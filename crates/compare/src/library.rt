@@ -4,11 +4,13 @@ use crate::shapes::Shape;
 use crate::shapes::drawn;
 use plain::archive::length_of;
 use plain::outcome::Sizes;
+use slices::at;
 use slices::count_at;
 use slices::plus;
 use slices::put;
 use trials::lists;
 use trials::numbers;
+use trials::places;
 use trials::random::below;
 use trials::random::draw;
 use trials::random::once_in;
@@ -163,4 +165,14 @@ fn ask_written(
     archives::open(archive, l, made);
     archives::read(archive, entries, lengths, l, seed, made);
     ask(questions, archive, entries, lengths, l, seed, made);
+    walk(archive, entries, l, seed, made);
+}
+
+// Over the places of one document, in libraries that are not large.
+fn walk(archive: &[u8], entries: &[u32], l: Sizes, seed: u32, made: &mut [u32; 64]) {
+    if l.n < 1000 {
+        let d = below(draw(seed, 4), l.documents);
+        places::walk(archive, entries, l, d, made);
+        places::walk(archive, entries, l, at(entries, 0), made);
+    }
 }

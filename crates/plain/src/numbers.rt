@@ -41,6 +41,18 @@ fn rank(entries: &[u32], l: Sizes, document: u32, place: u32) -> Outcome {
     number(occurrences(entries, document, place))
 }
 
+// The first place of a document from a place on; n where there is none.
+pub fn next_place(entries: &[u32], n: u32, document: u32, from: u32) -> u32 {
+    let mut i = from;
+    while i < n {
+        if at(entries, i) == document {
+            return i;
+        }
+        i += 1;
+    }
+    n
+}
+
 // The place of the j-th entry of a document; n where it has fewer.
 fn place_of(entries: &[u32], n: u32, document: u32, j: u32) -> Outcome {
     let mut seen = 0;

@@ -1,6 +1,7 @@
 // How many questions of each kind were compared, and a line for each difference.
 use libc::STDOUT_FILENO;
 use plain::outcome::DONE;
+use plain::outcome::NUMBER;
 use plain::outcome::Outcome;
 use plain::outcome::Question;
 use plain::outcome::REFUSED;
@@ -38,18 +39,22 @@ fn name(kind: u32) {
         15 => text(b"probing of entries"),
         16 => text(b"probing of terms"),
         17 => text(b"weighted"),
-        18 => text(b"conjunction of patterns"),
+        18 => text(b"walk of places"),
+        19 => text(b"conjunction of patterns"),
         _ => text(b"weighted of patterns"),
     }
 }
 
-const KINDS: u32 = 20;
+const KINDS: u32 = 21;
 
 // A refusal's slot is its number and this.
-const REFUSALS: u32 = 20;
+const REFUSALS: u32 = 21;
 
 // How many of the weighted searches of patterns end so: an end's slot is its number and this.
 const ENDS: u32 = 40;
+
+// How many of the places that are asked for are the end.
+const AT_THE_END: u32 = 50;
 
 const DIFFERENCES: u32 = 63;
 
@@ -117,6 +122,16 @@ pub fn count_end(end: Outcome, made: &mut [u32; 64]) {
     count_at(made, plus(ENDS, end.what));
 }
 
+// Of a select and of a walk of places, where the answer is n.
+pub fn count_place(place: Outcome, n: u32, made: &mut [u32; 64]) {
+    if place.what != NUMBER {
+        return;
+    }
+    if place.x == n {
+        count_at(made, AT_THE_END);
+    }
+}
+
 fn line(kind: u32, made: &[u32; 64]) {
     name(kind);
     show(at(made, kind));
@@ -156,10 +171,12 @@ fn ends(made: &[u32; 64]) {
     show(at(made, plus(ENDS, DONE)));
     text(b", spent");
     show(at(made, plus(ENDS, SPENT)));
+    text(b"\nplaces at the end");
+    show(at(made, AT_THE_END));
     text(b"\n");
 }
 
-// One line a kind of question, and how many were compared; how the last kind ended; then how many are refused, by number; then the differences.
+// One line a kind of question, and how many were compared; how the last kind ended, and how many places were the end; then how many are refused, by number; then the differences.
 pub fn totals(made: &[u32; 64]) {
     kinds(made);
     ends(made);

@@ -1,5 +1,6 @@
 // Questions for a number: access, rank, select, quantile, the range of terms, the count per mille.
 use crate::differences::compare;
+use crate::differences::count_place;
 use crate::random::below;
 use crate::random::draw;
 use crate::random::near;
@@ -123,11 +124,9 @@ pub fn ask(
     made: &mut [u32; 64],
 ) {
     let q = drawn(kind, entries, l, draw(seed, 1));
-    compare(
-        q,
-        asked(archive, q),
-        plain::numbers::answer(entries, lengths, l, q),
-        true,
-        made,
-    );
+    let expected = plain::numbers::answer(entries, lengths, l, q);
+    compare(q, asked(archive, q), expected, true, made);
+    if kind == 5 {
+        count_place(expected, l.n, made);
+    }
 }

@@ -50,7 +50,7 @@ fn search_of(t: Terms, l: Sizes, seed: u32) -> Question {
     let most = plus(l.documents, 2);
     let k = below(draw(seed, 1), most);
     Question {
-        kind: 19,
+        kind: 20,
         a: numbers[0],
         b: t.size,
         c: k,
@@ -70,7 +70,7 @@ fn ask_both(
     seed: u32,
     made: &mut [u32; 64],
 ) {
-    let q = named(18, t, plus(l.documents, l.documents));
+    let q = named(19, t, plus(l.documents, l.documents));
     let s = search_of(t, l, draw(seed, 1));
     ask_terms(q, t, archive, entries, lengths, l, draw(seed, 2), made);
     let end = searches::ask(s, t, archive, entries, lengths, l, draw(seed, 3), made);
