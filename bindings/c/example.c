@@ -107,12 +107,10 @@ static void ask_opened(void) {
   uint32_t entries[8], lengths[3], sizes[3];
   say("opened access 4", masuvelior_opened_access(archive, size, 4, &x), &x, 1);
   say("opened rank of 3 before 3", masuvelior_opened_rank(archive, size, 3, 3, &x), &x, 1);
-  uint32_t code = masuvelior_opened_select(archive, size, 0, 3, &x);
-  x = x == MASUVELIOR_NONE;
-  say("opened select third 0, none", code, &x, 1);
+  say("opened select third 0", masuvelior_opened_select(archive, size, 0, 3, &x), &x, 1);
   say("opened quantile 7 of 0 to 8", masuvelior_opened_quantile(archive, size, 0, 8, 7, &x), &x, 1);
   say("opened quantile 2 of term 0", masuvelior_opened_quantile_terms(archive, size, 0, 0, 2, &x), &x, 1);
-  code = masuvelior_opened_list(archive, size, 3, 8, answers, 2 * N, &listed);
+  uint32_t code = masuvelior_opened_list(archive, size, 3, 8, answers, 2 * N, &listed);
   say("opened list 3 to 8", code, answers, 2 * listed);
   code = masuvelior_opened_list_terms(archive, size, 0, 0, answers, 2 * N, &listed);
   say("opened list of term 0", code, answers, 2 * listed);
@@ -134,12 +132,25 @@ static void ask_opened(void) {
   say("opened read", code, sizes, 3);
 }
 
+/* A walk over the places of document 3, j = 1, 2, ..: there is no fourth, so it ends at n. */
+static void walk(void) {
+  uint32_t n = 0, documents, terms, places[9], j = 0, place = 0;
+  uint32_t code = masuvelior_open(archive, size, &n, &documents, &terms);
+  while (code == MASUVELIOR_OK && place < n) {
+    code = masuvelior_opened_select(archive, size, 3, j + 1, &place);
+    places[j++] = place;
+  }
+  say("walk over 3, to n", code, places, j);
+}
+
 /* A refusal answers its number and leaves what is lent as it was. */
 static void refusals(void) {
   uint32_t x = 99, listed = 98, answers[2 * N] = {5, 5, 5, 5, 5, 5, 5, 5}, work[4 * N] = {6}, end[2] = {97, 96};
   const uint32_t nine[] = {0, 0, 0, 0, 0, 0, 0, 0, 0}, three[] = {3}, repeated[] = {0, 0, 3};
   say("access 8", masuvelior_access(archive, size, 8, &x), &x, 1);
   say("opened access 8", masuvelior_opened_access(archive, size, 8, &x), &x, 1);
+  say("select zeroth 0", masuvelior_select(archive, size, 0, 0, &x), &x, 1);
+  say("opened select first 4", masuvelior_opened_select(archive, size, 4, 1, &x), &x, 1);
   say("nine terms", masuvelior_conjunction(archive, size, nine, 9, answers, 2 * N, &listed), &listed, 1);
   say("terms 0, 0 and 3", masuvelior_conjunction(archive, size, repeated, 3, answers, 2 * N, &listed), &listed, 1);
   say("opened no terms", masuvelior_opened_conjunction(archive, size, nine, 0, answers, 2 * N, &listed), &listed, 1);
@@ -167,6 +178,7 @@ int main(int argc, char **argv) {
   search();
   weigh();
   ask_opened();
+  walk();
   refusals();
   fputs(said, stdout);
   FILE *file = argc == 2 ? fopen(argv[1], "rb") : NULL;

@@ -34,9 +34,9 @@
 
 /* The edition of the archive's format, and the version of this interface: the minor number rises where functions are added, the major one
  * where a function's parameters or answers change. From 2.0 on a repeated term counts once (masuvelior_conjunction, masuvelior_weighted);
- * before, it counted each time. */
+ * before, it counted each time. From 3.0 on masuvelior_select answers n where a document has fewer than j entries; before, UINT32_MAX. */
 #define MASUVELIOR_EDITION 1
-#define MASUVELIOR_VERSION_MAJOR 2
+#define MASUVELIOR_VERSION_MAJOR 3
 #define MASUVELIOR_VERSION_MINOR 0
 
 /* The limits: n is 0 to MASUVELIOR_MAX_ENTRIES, N and W are 1 to theirs, and a conjunction or a weighted search is given 1 to
@@ -45,9 +45,6 @@
 #define MASUVELIOR_MAX_DOCUMENTS 4096
 #define MASUVELIOR_MAX_TERMS 4096
 #define MASUVELIOR_MAX_CHOSEN 8
-
-/* The place that select answers where there is none: no entry has it. */
-#define MASUVELIOR_NONE UINT32_MAX
 
 /* How many numbers are asked for: in the answer slice of list and conjunction, in that of top-k, by count or by score, and in the work
  * slice of top-k. */
@@ -137,8 +134,9 @@ uint32_t masuvelior_access(const uint8_t *archive, size_t archive_length, uint32
 MASUVELIOR_MUST_USE
 uint32_t masuvelior_rank(const uint8_t *archive, size_t archive_length, uint32_t document, uint32_t place, uint32_t *count);
 
-/* The place of the j-th entry of a document, j from 1, or MASUVELIOR_NONE where it has fewer. 11: document N or more, j 0.
- * Cost: 2 * h ranks, then in each row a search among its samples, by halves, and 64 bytes. */
+/* The place of the j-th entry of a document, j from 1; n, one past the end, where it has fewer, and nowhere else. So a walk over its places,
+ * j = 1, 2, .., ends at n. 11: document N or more, j 0.
+ * Cost: 2 * h ranks; where the entry is there, in each row a search among its samples too, by halves, and 64 bytes. */
 MASUVELIOR_MUST_USE
 uint32_t masuvelior_select(const uint8_t *archive, size_t archive_length, uint32_t document, uint32_t j, uint32_t *place);
 

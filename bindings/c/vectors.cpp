@@ -31,12 +31,14 @@ std::vector<uint8_t> without_entries() {
 }
 
 void ask(std::vector<uint8_t> &archive) {
-  uint32_t n = 9, documents = 9, terms = 9, listed = 9, spent = 9, number = 9;
+  uint32_t n = 9, documents = 9, terms = 9, place = 9, listed = 9, spent = 9, number = 9;
   std::vector<uint32_t> none, lengths(2, 9), work(MASUVELIOR_WORK_LENGTH(5), 9);
   const uint32_t read = masuvelior_read(lent(archive), archive.size(), lent(none), none.size(), lent(lengths), lengths.size(),
                                         &n, &documents, &terms);
   expect("read without entries", read == MASUVELIOR_OK && n == 0 && documents == 5 && terms == 2);
   expect("lengths without entries", lengths[0] == 0 && lengths[1] == 0);
+  const uint32_t select = masuvelior_select(lent(archive), archive.size(), 4, 1, &place);
+  expect("place without entries", select == MASUVELIOR_OK && place == n);
   const uint32_t conjunction = masuvelior_conjunction(lent(archive), archive.size(), lent(none), none.size(),
                                                       lent(none), none.size(), &listed);
   expect("no terms", conjunction == MASUVELIOR_REFUSED_TERM_COUNT && listed == 9);
