@@ -33,18 +33,30 @@ impl Archive<'_> {
         outcome(answer, count).map_err(|refusal| refusal.about(|| self.fault(document, Argument::Before)))
     }
 
-    /// The place of the j-th entry that is this document, j from 1, if there are so many. Cost: 2 × h ranks, then in each row a search
-    /// among its samples, by halves, and 64 bytes.
+    /// The place of the j-th entry that is this document, j from 1; n, one past the end, where there are fewer, and nowhere else. So a walk
+    /// over its places, j = 1, 2, .., ends at n. Cost: 2 × h ranks; where the entry is there, in each row a search among its samples too,
+    /// by halves, and 64 bytes.
+    ///
+    /// ```
+    /// let bytes = masuvelior::write(&[3, 1, 0, 3, 2, 1, 3, 0], &[3, 0, 5], 4)?;
+    /// let archive = masuvelior::Archive::open(&bytes)?;
+    /// let n = archive.entries();
+    /// assert_eq!(n, 8);
+    /// assert_eq!(archive.select(0, 3)?, n); // there is no third 0
+    ///
+    /// let walk = (1..).map(|j| archive.select(3, j)).take_while(|place| *place != Ok(n));
+    /// assert_eq!(walk.collect::<Result<Vec<u32>, _>>()?, [0, 3, 6]); // the places of 3
+    /// # Ok::<(), masuvelior::Refusal>(())
+    /// ```
     ///
     /// # Errors
     /// 11 where the document is N or more, or j is 0.
-    pub fn select(&self, document: u32, j: u32) -> Result<Option<u32>, Refusal> {
+    pub fn select(&self, document: u32, j: u32) -> Result<u32, Refusal> {
         let (archive, length) = self.lent();
         let mut place = 0;
         // SAFETY: POINTERS, WRITTEN and CONST by the references; OPENED by `Archive::open`, the only maker of an `Archive`.
         let answer = unsafe { sys::masuvelior_opened_select(archive, length, document, j, &mut place) };
-        outcome(answer, (place != sys::NONE).then_some(place))
-            .map_err(|refusal| refusal.about(|| self.fault(document, Argument::Occurrence)))
+        outcome(answer, place).map_err(|refusal| refusal.about(|| self.fault(document, Argument::Occurrence)))
     }
 
     /// The document at rank r, from 0, if the range were sorted. Cost: 4 × h ranks.

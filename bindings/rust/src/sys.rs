@@ -7,9 +7,6 @@
 //!
 //! References and slices of Rust, also empty ones, keep POINTERS; `&mut` keeps WRITTEN; `&` keeps CONST.
 
-/// The place that select answers where there is none.
-pub const NONE: u32 = u32::MAX;
-
 macro_rules! declare {
     ($($name:ident ( $($argument:ident : $type:ty),* );)*) => {
         // The checked questions are declared too: the tests ask them beside those of an opened archive.

@@ -1,6 +1,5 @@
 //! Questions put through the crate: in vectors of its own, and in slices that we lend.
 use crate::questions::{Answer, Question, Span};
-use crate::sys;
 use masuvelior::{Archive, Counted, Ended, Over, Refusal, Scored};
 
 /// Slices to lend, full of numbers that differ from each other.
@@ -113,9 +112,7 @@ fn numbers(archive: &Archive, question: &Question) -> Result<Answer, Refusal> {
     let numbers = match *question {
         Question::Access { place } => vec![archive.access(place)?],
         Question::Rank { document, place } => vec![archive.rank(document, place)?],
-        Question::Select { document, j } => {
-            vec![archive.select(document, j)?.unwrap_or(sys::NONE)]
-        }
+        Question::Select { document, j } => vec![archive.select(document, j)?],
         Question::Quantile { span, r } => vec![archive.quantile(over(span), r)?],
         Question::RangeOfTerms { first, last } => {
             let range = archive.range_of_terms(first..=last)?;

@@ -7,6 +7,7 @@ mod compare;
 mod damage;
 mod header;
 mod library;
+mod places;
 mod print;
 mod questions;
 mod random;

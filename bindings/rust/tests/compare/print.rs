@@ -61,7 +61,7 @@ fn the_small_library() -> Result<(), Refusal> {
     let archive = Archive::open(&bytes)?;
     assert_eq!(archive.access(4)?, 2);
     assert_eq!((archive.rank(3, 8)?, archive.rank(3, 3)?), (3, 1));
-    assert_eq!((archive.select(0, 2)?, archive.select(0, 3)?), (Some(7), None));
+    assert_eq!((archive.select(0, 2)?, archive.select(0, 3)?), (7, 8));
     assert_eq!(archive.quantile(Entries(0..8), 4)?, 2);
     assert_eq!(archive.quantile(Terms(0..=2), 7)?, 3);
     assert_eq!(archive.conjunction(&[0, 2])?, [(0, 2), (1, 2), (3, 3)]);
@@ -151,7 +151,7 @@ fn three_rows_and_two_samples_a_row() -> Result<(), Refusal> {
     let archive = Archive::open(&bytes)?;
     assert_eq!(archive.access(123)?, 5);
     assert_eq!(archive.rank(3, 123)?, 17);
-    assert_eq!(archive.select(6, 10)?, Some(67));
+    assert_eq!(archive.select(6, 10)?, 67);
     assert_eq!(archive.quantile(Entries(0..600), 300)?, 3);
     Ok(())
 }

@@ -43,9 +43,6 @@ pub struct Answer {
     pub second: Vec<u32>,
 }
 
-/// The place that the header gives where there is none.
-const NONE: u32 = u32::MAX;
-
 pub type Pairs = Vec<(u32, u32)>;
 
 /// What the library answers, or the number of the refusal: the lowest that applies.
@@ -143,12 +140,13 @@ fn rank(library: &Library, document: u32, place: u32) -> Result<u32, u32> {
     Ok(before.iter().filter(|entry| **entry == document).count() as u32)
 }
 
+/// n where the document has fewer than j entries.
 fn select(library: &Library, document: u32, j: u32) -> Result<u32, u32> {
     if document >= library.documents || j == 0 {
         return Err(11);
     }
-    let mut places = (0u32..).zip(&library.entries).filter(|(_, entry)| **entry == document);
-    Ok(places.nth(j as usize - 1).map_or(NONE, |(place, _)| place))
+    let mut places = (0..).zip(&library.entries).filter(|(_, entry)| **entry == document);
+    Ok(places.nth(j as usize - 1).map_or(library.entries.len() as u32, |(place, _)| place))
 }
 
 fn quantile(library: &Library, span: Span, r: u32) -> Result<u32, u32> {
