@@ -1,4 +1,4 @@
-// What the conjunction and the searches answer by the definitions in docs/FORMAT.md: from the list alone, sharing nothing with a contender.
+// What select, the conjunction and the searches answer by the definitions in docs/FORMAT.md: from the list alone, sharing nothing with a contender.
 #pragma once
 #include <algorithm>
 #include <set>
@@ -8,6 +8,15 @@
 #include <vector>
 
 typedef std::vector<uint32_t> Numbers;
+
+// The places of a document, ascending, and n behind them: what select answers for 1, 2, .. up to one more than there are.
+inline Numbers places_of(const Numbers &list, uint32_t d) {
+  Numbers places;
+  for (size_t i = 0; i < list.size(); i++)
+    if (list[i] == d) places.push_back((uint32_t)i);
+  places.push_back((uint32_t)list.size());
+  return places;
+}
 
 // What the terms of a question come to: a repeated term counts once.
 inline std::set<uint32_t> different(const uint32_t *given, size_t size) { return std::set<uint32_t>(given, given + size); }

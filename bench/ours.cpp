@@ -49,11 +49,10 @@ size_t F(rank)(LEVELS_UNUSED, size_t d, size_t i) {
   return count;
 }
 
-size_t F(select)(LEVELS, size_t d, size_t i) {
-  (void)height, (void)samples, (void)rows;
+size_t F(select)(LEVELS_UNUSED, size_t d, size_t i) {
   u32 place = 0;
   answered(ASK(select)(bytes, len, (u32)d, (u32)i, &place));
-  return place == MASUVELIOR_NONE ? n : place;
+  return place;
 }
 
 size_t F(quantile)(LEVELS_UNUSED, size_t a, size_t b, size_t r) {

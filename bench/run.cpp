@@ -313,10 +313,21 @@ void verify_query(const std::vector<Contender> &all, const Data &data, Op op, co
   if ((op == GREEDY || op == WEIGHTED) && turn % 2 == 0) verify_bounded(all, data, op, q, right, (size_t)expected);
 }
 
-// A question of terms is asked with its terms given again, too.
+// How a walk over the places of a document begins and ends: its first entry, its last, the one behind that, which is missing, and one far behind.
+void verify_places(const std::vector<Contender> &all, const Data &data, Query q) {
+  Numbers places = places_of(data.entries, (uint32_t)q.x);
+  size_t count = places.size() - 1;
+  for (size_t j : {(size_t)1, std::max<size_t>(count, 1), count + 1, (size_t)NO_BOUND}) {
+    q.a = j;
+    for (size_t c = 0; c < all.size(); c++) expect(all[c].ops[SELECT](data.indexes[c], q, nullptr) == places[std::min(j - 1, count)], all[c], "walk over places");
+  }
+}
+
+// A question of terms is asked with its terms given again, too; one for a place also where the document's places end.
 void verify_op(const std::vector<Contender> &all, const Data &data, Op op, size_t turn) {
   Query q = random_query(data, op, turn);
   verify_query(all, data, op, q, turn);
+  if (op == SELECT) verify_places(all, data, q);
   if (!takes_terms(op)) return;
   for (Again way : {BESIDE, BEHIND, ALONE}) verify_query(all, data, op, again(q, way), turn);
 }
@@ -528,7 +539,7 @@ Query typed_wet(Query q) {
   return q;
 }
 
-// `of`: how many terms, as the name has it. A batch has no fewer questions than `least`.
+// `of`: how many terms, or what else the name has. A batch has no fewer questions than `least`.
 template <class Make> void add(Set &set, const std::vector<Contender> &all, const char *filter, double seconds, Op op, int range, uint32_t k, const std::string &of, size_t least, Make make) {
   const Data &data = range == MIXED ? *set.mixed : op == CONJUNCTION && range == 1 ? *set.volumes : *set.terms;
   std::string name = NAMES[op] + of;
@@ -577,6 +588,7 @@ void add_cells(Set &set, const std::vector<Contender> &all, const char *filter, 
   cell(ACCESS, -1, 0, 0, [](const Data &d) { Query q = Query(); q.a = below(d.entries.size()); return q; });
   cell(RANK, -1, 0, 0, [](const Data &d) { Query q = Query(); q.x = d.entries[below(d.entries.size())]; q.a = below(d.entries.size() + 1); return q; });
   // The occurrence is there: as many as before a random place, and one more that may be at it.
+  uint64_t before = seed;
   cell(SELECT, -1, 0, 0, [](const Data &d) {
     Query q = Query();
     size_t place = below(d.entries.size());
@@ -584,6 +596,16 @@ void add_cells(Set &set, const std::vector<Contender> &all, const char *filter, 
     q.a = (size_t)std::count(d.entries.begin(), d.entries.begin() + (long)place + 1, (uint32_t)q.x);
     return q;
   });
+  // It is missing: of the same documents the one behind the last, with which a walk over their places ends. The seed is put back for the others.
+  uint64_t after = seed;
+  seed = before;
+  add(set, all, filter, seconds, SELECT, -1, 0, " missing", 1, [](const Data &d) {
+    Query q = Query();
+    q.x = d.entries[below(d.entries.size())];
+    q.a = 1 + (size_t)std::count(d.entries.begin(), d.entries.end(), (uint32_t)q.x);
+    return q;
+  });
+  seed = after;
   for (int range = 0; range < 3; range++)
     cell(QUANTILE, range, 0, 0, [=](const Data &d) { Query q = range_query(d, range); q.x = below(q.b - q.a); return q; });
   for (int range = 0; range < 3; range++)

@@ -50,10 +50,12 @@ template <class Tree> struct Peer {
 
   static uint64_t access(void *p, const Query &q, uint32_t *) { return ((Index *)p)->tree[q.a]; }
   static uint64_t rank(void *p, const Query &q, uint32_t *) { return ((Index *)p)->tree.rank(q.a, q.x); }
-  // sdsl's select wants the occurrence to be there.
+  // sdsl's select wants the occurrence to be there. Where it is, a table says so and spares the rank; the table is no part of sdsl's index, so
+  // that it is missing is found by its rank.
   static uint64_t select(void *p, const Query &q, uint32_t *) {
     Index &x = *(Index *)p;
-    return q.a <= x.total[q.x] ? x.tree.select(q.a, q.x) : x.n;
+    bool there = q.a <= x.total[q.x] || q.a <= x.tree.rank(x.n, q.x);
+    return there ? x.tree.select(q.a, q.x) : x.n;
   }
   static uint64_t quantile(void *p, const Query &q, uint32_t *) {
     return sdsl::quantile_freq(((Index *)p)->tree, q.a, q.b - 1, q.x).first;
