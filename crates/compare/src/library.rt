@@ -168,7 +168,7 @@ fn ask_written(
     walk(archive, entries, l, seed, made);
 }
 
-// Over the places of one document, in libraries that are not large.
+// Over the places of two documents, any and that of the first entry, in libraries that are not large.
 fn walk(archive: &[u8], entries: &[u32], l: Sizes, seed: u32, made: &mut [u32; 64]) {
     if l.n < 1000 {
         let d = below(draw(seed, 4), l.documents);
