@@ -17,4 +17,5 @@ pub mod Probing
 pub mod Weighted
 pub mod Papers
 pub mod Questions
+pub mod Halving
 pub mod Repeated

@@ -135,9 +135,9 @@ module _ (lib : Library) (v : Valid lib) where
 -- ---- an archive
 
 -- an accepted archive answers over what it holds
-pub accepted-answers : (bytes : List ℕ) → ((i : ℕ) → getD bytes i 0 < 256) → (s : Sizes) → opening bytes ≡ answered s → AnswersOver bytes (contents bytes)
-accepted-answers bytes small s e =
-    answers-over (contents bytes) (read.contents-valid bytes small (read.accepted bytes s e .0)) bytes
+pub accepted-answers : (bytes : List ℕ) (s : Sizes) → opening bytes ≡ answered s → AnswersOver bytes (contents bytes)
+accepted-answers bytes s e =
+    answers-over (contents bytes) (read.contents-valid bytes (read.accepted bytes s e .0)) bytes
     (ap (λ (o : Outcome Sizes). andThen o (λ z. answered (contents bytes))) e)
 
 -- the archive of a library answers over that library

@@ -11,4 +11,5 @@ pub mod Rank
 pub mod Sorted
 pub mod Quantile
 pub mod Select
+pub mod Halving
 pub mod Placing

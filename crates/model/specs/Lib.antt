@@ -11,6 +11,7 @@ pub mod Papers
 pub mod TopK
 pub mod Search
 pub mod Weighted
+pub mod Halving
 pub mod Probing
 pub mod Frontier
 pub mod Demand2
@@ -20,3 +21,4 @@ pub mod Cases
 pub mod WeightedCases
 pub mod DistinctCases
 pub mod PlaceCases
+pub mod HalvingCases

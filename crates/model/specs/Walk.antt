@@ -26,7 +26,7 @@ pos h xs j q a = posOf (key h j) xs q a
 abbrev pub zerosIn : List ℕ → ℕ → ℕ → ℕ
 zerosIn bits s p = (p - s) - (rank 1 bits p - rank 1 bits s)
 
--- in the low half, which starts at s, and in the high half, which ends at e
+-- in the zero half, which starts at s, and in the one half, which ends at e
 abbrev pub left : List ℕ → ℕ → ℕ → ℕ
 left bits s p = s + zerosIn bits s p
 

@@ -23,7 +23,7 @@ read-written lib bytes e =
 pub write-read : (bytes : List ℕ) → ((i : ℕ) → getD bytes i 0 < 256) → (s : Sizes) → opening bytes ≡ answered s
     → (sizesOf (contents bytes) ≡ s) × (archiveOf (contents bytes) ≡ answered bytes)
 write-read bytes small s e =
-    let (acc, same) = accepted bytes s e in (sizes-same bytes small acc ∙ same, archive-contents bytes small acc)
+    let (acc, same) = accepted bytes s e in (sizes-same bytes acc ∙ same, archive-contents bytes acc small)
 
 -- two libraries that are written as the same bytes are the same
 pub library-unique : (a b : Library) (bytes : List ℕ) → archiveOf a ≡ answered bytes → archiveOf b ≡ answered bytes → a ≡ b

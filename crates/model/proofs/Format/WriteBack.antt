@@ -13,7 +13,6 @@ use Rattle.bits.specs.Bits.{concat, sum, bitsOf, pack, littleEndian, unusedClea
 use Rattle.bits.proofs.Tests.{and-both}
 use Rattle.bits.proofs.Tally.{all-upFrom-at, length-upFrom}
 use Rattle.bits.proofs.Chunks.{concat-chunks, concat-below}
-use Rattle.bits.proofs.Bits.{length-bitsOf, getD-bitsOf, bitAt-lt}
 use Rattle.bits.proofs.Pack.{pack-bitsOf}
 use Rattle.bits.proofs.LittleEndian.{little-numberAt, numbers-at, samples-are}
 use Rattle.model.specs.Lists.{any, Within}
@@ -21,9 +20,9 @@ use Rattle.model.specs.Outcome.{Outcome, answered, refuse}
 use Rattle.model.specs.Rows.{row, decode}
 use Rattle.model.specs.Format.{Library, Sizes, sizesOf, withinLimits, tableOffset, rowCount, samplesOffset, samplesLength, rowsOffset, rowsLength, archiveLength, pairs, header, tableFrom, encode, archiveOf}
 use Rattle.model.specs.Opening.{sizesAt, startAt, lengthAt, samplesAt, rowAt, entriesAt, contents, pairsHold, tableHolds, opening}
-use Rattle.model.proofs.Lists.{map-append, concat-append, within-of}
+use Rattle.model.proofs.Lists.{map-append, concat-append}
 use Rattle.model.proofs.Wavelet.Rows.{RowsOf}
-use Rattle.model.proofs.Wavelet.Decode.{decoded}
+use Rattle.model.proofs.Wavelet.Decode.{decoded-bits}
 use Rattle.model.proofs.Format.Valid.{Limits, Valid, limits-of, within-any, refuse-answered, archive-valid}
 use Rattle.model.proofs.Format.Layout.{encode-parts}
 use Rattle.model.proofs.Sums.{chunk-end}
@@ -96,38 +95,13 @@ chunk-fits : (w k h j : ℕ) (bytes : List ℕ) → k + h * w ≤ length bytes �
 chunk-fits w k h j bytes fits l =
     length-take-le w (drop (k + j * w) bytes) (rw (length-drop (k + j * w) bytes) (omega (arith, chunk-end w j h l)))
 
-bits-within : (n : ℕ) (row : List ℕ) → Within 2 (bitsOf n row)
-bits-within n row = within-of 2 (bitsOf n row) (λ i l. rw (getD-bitsOf n row i (rw (length-bitsOf n row) at l)) (bitAt-lt row i))
-
-module _ (bytes : List ℕ) (small : (i : ℕ) → getD bytes i 0 < 256) where
-  -- ---- the term table
-
+module _ (bytes : List ℕ) where
   -- the lengths of terms that follow each other to the end add up
   table-sum : (n start t m : ℕ) → tableHolds bytes n start (upFrom t m) ≡ true → start + sum (map (lengthAt bytes) (upFrom t m)) ≡ n
   table-sum n start t zero e = omega (arith, eqb-true start n e)
   table-sum n start t (suc m) e =
       let b = and-both (eqb (startAt bytes t) start) (tableHolds bytes n (startAt bytes t + lengthAt bytes t) (upFrom (suc t) m)) e in
       omega (arith, eqb-true (startAt bytes t) start (b .0), table-sum n (startAt bytes t + lengthAt bytes t) (suc t) m (b .1))
-
-  table-bytes : (n start t m : ℕ) → tableHolds bytes n start (upFrom t m) ≡ true → tableOffset + 8 * (t + m) ≤ length bytes
-      → concat (map littleEndian (tableFrom start (map (lengthAt bytes) (upFrom t m)))) ≡ take (8 * m) (drop (tableOffset + 8 * t) bytes)
-  table-bytes n start t zero e l = refl
-  table-bytes n start t (suc m) e l =
-      let b = and-both (eqb (startAt bytes t) start) (tableHolds bytes n (startAt bytes t + lengthAt bytes t) (upFrom (suc t) m)) e in
-      let same = eqb-true (startAt bytes t) start (b .0) in
-      let from = tableOffset + 8 * t in
-      let more : 8 * suc m ≡ 4 + (4 + 8 * m) = omega arith in
-      let next : tableOffset + 8 * suc t ≡ from + 4 + 4 = omega arith in
-      (λ i.
-      littleEndian (sym same i)
-      ++ (littleEndian (lengthAt bytes t) ++ concat (map littleEndian (tableFrom (sym same i + lengthAt bytes t) (map (lengthAt bytes) (upFrom (suc t) m))))))
-      ∙ ap₂ (λ (x y : List ℕ). x ++ y) (little-numberAt bytes small from (omega arith))
-      (ap₂ (λ (x y : List ℕ). x ++ y) (little-numberAt bytes small (from + 4) (omega arith) ∙ ap (take 4) (sym (drop-drop 4 from bytes)))
-      (table-bytes n (startAt bytes t + lengthAt bytes t) (suc t) m (b .1) (omega arith)
-      ∙ ap (λ (k : ℕ). take (8 * m) (drop k bytes)) next
-      ∙ ap (take (8 * m)) (sym (drop-drop 4 (from + 4) bytes) ∙ ap (drop 4) (sym (drop-drop 4 from bytes))))
-      ∙ sym (take-add 4 (8 * m) (drop 4 (drop from bytes))))
-      ∙ sym (take-add 4 (4 + 8 * m) (drop from bytes)) ∙ ap (λ (k : ℕ). take k (drop from bytes)) (sym more)
 
   module _ (acc : Accepted bytes) where
     abbrev z : Sizes
@@ -145,7 +119,7 @@ module _ (bytes : List ℕ) (small : (i : ℕ) → getD bytes i 0 < 256) where
     -- ---- the entries and the lengths
 
     rows-decoded : RowsOf h n (decode h n (λ j. bitsOf n (rowAt bytes z j))) (λ j. bitsOf n (rowAt bytes z j))
-    rows-decoded = decoded h n (λ j. bitsOf n (rowAt bytes z j)) (λ j l. length-bitsOf n (rowAt bytes z j)) (λ j l. bits-within n (rowAt bytes z j))
+    rows-decoded = decoded-bits h n (rowAt bytes z)
 
     entries-size : length (library .entries) ≡ n
     unfolding entriesAt
@@ -169,62 +143,85 @@ module _ (bytes : List ℕ) (small : (i : ℕ) → getD bytes i 0 < 256) where
       total = omega (arith, table-sum n 0 0 (z .terms) (acc .table), entries-size);
     }
 
-    -- ---- the bytes, part by part
+    module _ (small : (i : ℕ) → getD bytes i 0 < 256) where
+      -- ---- the term table
 
-    header-bytes : concat (map littleEndian (header z)) ≡ take tableOffset bytes
-    header-bytes = numbers-at bytes small 0 (header z) (let e = acc .size in omega arith) at
-      where
-        at : (i : ℕ) → i < 10 → getD (header z) i 0 ≡ numberAt bytes (0 + 4 * i)
-        at zero l = sym (acc .edition)
-        at (suc zero) l = refl
-        at (suc (suc zero)) l = refl
-        at (suc (suc (suc zero))) l = refl
-        at (suc (suc (suc (suc i)))) l =
-            let e : 16 + 4 * i ≡ 0 + 4 * suc (suc (suc (suc i))) = omega arith in
-            sym
-            (eqb-true (numberAt bytes (16 + 4 * i)) (getD (pairs z) i 0)
-            (all-upFrom-at (λ i. eqb (numberAt bytes (16 + 4 * i)) (getD (pairs z) i 0)) 0 6 (acc .layout) i (omega arith) (omega arith)))
-            ∙ ap (numberAt bytes) e
+      table-bytes : (n start t m : ℕ) → tableHolds bytes n start (upFrom t m) ≡ true → tableOffset + 8 * (t + m) ≤ length bytes
+          → concat (map littleEndian (tableFrom start (map (lengthAt bytes) (upFrom t m)))) ≡ take (8 * m) (drop (tableOffset + 8 * t) bytes)
+      table-bytes n start t zero e l = refl
+      table-bytes n start t (suc m) e l =
+          let b = and-both (eqb (startAt bytes t) start) (tableHolds bytes n (startAt bytes t + lengthAt bytes t) (upFrom (suc t) m)) e in
+          let same = eqb-true (startAt bytes t) start (b .0) in
+          let from = tableOffset + 8 * t in
+          let more : 8 * suc m ≡ 4 + (4 + 8 * m) = omega arith in
+          let next : tableOffset + 8 * suc t ≡ from + 4 + 4 = omega arith in
+          (λ i.
+          littleEndian (sym same i)
+          ++ (littleEndian (lengthAt bytes t) ++ concat (map littleEndian (tableFrom (sym same i + lengthAt bytes t) (map (lengthAt bytes) (upFrom (suc t) m))))))
+          ∙ ap₂ (λ (x y : List ℕ). x ++ y) (little-numberAt bytes small from (omega arith))
+          (ap₂ (λ (x y : List ℕ). x ++ y) (little-numberAt bytes small (from + 4) (omega arith) ∙ ap (take 4) (sym (drop-drop 4 from bytes)))
+          (table-bytes n (startAt bytes t + lengthAt bytes t) (suc t) m (b .1) (omega arith)
+          ∙ ap (λ (k : ℕ). take (8 * m) (drop k bytes)) next
+          ∙ ap (take (8 * m)) (sym (drop-drop 4 (from + 4) bytes) ∙ ap (drop 4) (sym (drop-drop 4 from bytes))))
+          ∙ sym (take-add 4 (8 * m) (drop 4 (drop from bytes))))
+          ∙ sym (take-add 4 (4 + 8 * m) (drop from bytes)) ∙ ap (λ (k : ℕ). take k (drop from bytes)) (sym more)
 
-    numbers-bytes : concat (map littleEndian (header z ++ tableFrom 0 (library .lengths))) ≡ take (samplesOffset z) bytes
-    numbers-bytes =
-        ap concat (map-append littleEndian (header z) (tableFrom 0 (library .lengths)))
-        ∙ concat-append (map littleEndian (header z)) (map littleEndian (tableFrom 0 (library .lengths)))
-        ∙ ap₂ (λ (x y : List ℕ). x ++ y) header-bytes (table-bytes n 0 0 (z .terms) (acc .table) (let e = acc .size in omega arith))
-        ∙ sym (take-add tableOffset (8 * z .terms) bytes)
+      -- ---- the bytes, part by part
 
-    samples-bytes : concat (map (λ j. samplesOf (row h j (library .entries))) (below h)) ≡ take (samplesLength z) (drop (samplesOffset z) bytes)
-    samples-bytes =
-        let w = 4 * sampleCount n in
-        let e = acc .size in
-        concat-below (λ j. samplesOf (row h j (library .entries))) (samplesAt bytes z) h
-        (λ j l.
-        ap samplesOf (row-stored j l)
-        ∙ samples-are n (samplesAt bytes z j) (rowAt bytes z j) (small-part w (samplesOffset z + j * w) bytes small)
-        (chunk-fits w (samplesOffset z) h j bytes (omega arith) l) (acc .samples j l))
-        ∙ concat-chunks w bytes (samplesOffset z) h
+      header-bytes : concat (map littleEndian (header z)) ≡ take tableOffset bytes
+      header-bytes = numbers-at bytes small 0 (header z) (let e = acc .size in omega arith) at
+        where
+          at : (i : ℕ) → i < 10 → getD (header z) i 0 ≡ numberAt bytes (0 + 4 * i)
+          at zero l = sym (acc .edition)
+          at (suc zero) l = refl
+          at (suc (suc zero)) l = refl
+          at (suc (suc (suc zero))) l = refl
+          at (suc (suc (suc (suc i)))) l =
+              let e : 16 + 4 * i ≡ 0 + 4 * suc (suc (suc (suc i))) = omega arith in
+              sym
+              (eqb-true (numberAt bytes (16 + 4 * i)) (getD (pairs z) i 0)
+              (all-upFrom-at (λ i. eqb (numberAt bytes (16 + 4 * i)) (getD (pairs z) i 0)) 0 6 (acc .layout) i (omega arith) (omega arith)))
+              ∙ ap (numberAt bytes) e
 
-    rows-bytes : concat (map (λ j. pack (row h j (library .entries))) (below h)) ≡ take (rowsLength z) (drop (rowsOffset z) bytes)
-    rows-bytes =
-        let w = rowBytes n in
-        let e = acc .size in
-        concat-below (λ j. pack (row h j (library .entries))) (rowAt bytes z) h
-        (λ j l.
-        ap pack (row-stored j l)
-        ∙ pack-bitsOf n (rowAt bytes z j) (small-part w (rowsOffset z + j * w) bytes small)
-        (chunk-fits w (rowsOffset z) h j bytes (omega arith) l) (acc .unused j l))
-        ∙ concat-chunks w bytes (rowsOffset z) h
+      numbers-bytes : concat (map littleEndian (header z ++ tableFrom 0 (library .lengths))) ≡ take (samplesOffset z) bytes
+      numbers-bytes =
+          ap concat (map-append littleEndian (header z) (tableFrom 0 (library .lengths)))
+          ∙ concat-append (map littleEndian (header z)) (map littleEndian (tableFrom 0 (library .lengths)))
+          ∙ ap₂ (λ (x y : List ℕ). x ++ y) header-bytes (table-bytes n 0 0 (z .terms) (acc .table) (let e = acc .size in omega arith))
+          ∙ sym (take-add tableOffset (8 * z .terms) bytes)
 
-    pub encode-contents : encode (contents bytes) ≡ bytes
-    encode-contents =
-        encode-parts library contents-valid
-        ∙ ap₂ (λ (x y : List ℕ). x ++ y)
-        (ap (λ (y : Sizes). concat (map littleEndian (header y ++ tableFrom 0 (library .lengths)))) sizes-same ∙ numbers-bytes)
-        (ap₂ (λ (x y : List ℕ). x ++ y) samples-bytes rows-bytes)
-        ∙ sym (append-assoc (take (samplesOffset z) bytes) (take (samplesLength z) (drop (samplesOffset z) bytes)) (take (rowsLength z) (drop (rowsOffset z) bytes)))
-        ∙ ap (λ (x : List ℕ). x ++ take (rowsLength z) (drop (rowsOffset z) bytes)) (sym (take-add (samplesOffset z) (samplesLength z) bytes))
-        ∙ sym (take-add (rowsOffset z) (rowsLength z) bytes)
-        ∙ take-all (archiveLength z) bytes (let e = acc .size in omega arith)
+      samples-bytes : concat (map (λ j. samplesOf (row h j (library .entries))) (below h)) ≡ take (samplesLength z) (drop (samplesOffset z) bytes)
+      samples-bytes =
+          let w = 4 * sampleCount n in
+          let e = acc .size in
+          concat-below (λ j. samplesOf (row h j (library .entries))) (samplesAt bytes z) h
+          (λ j l.
+          ap samplesOf (row-stored j l)
+          ∙ samples-are n (samplesAt bytes z j) (rowAt bytes z j) (small-part w (samplesOffset z + j * w) bytes small)
+          (chunk-fits w (samplesOffset z) h j bytes (omega arith) l) (acc .samples j l))
+          ∙ concat-chunks w bytes (samplesOffset z) h
 
-    pub archive-contents : archiveOf (contents bytes) ≡ answered bytes
-    archive-contents = archive-valid library contents-valid ∙ ap answered encode-contents
+      rows-bytes : concat (map (λ j. pack (row h j (library .entries))) (below h)) ≡ take (rowsLength z) (drop (rowsOffset z) bytes)
+      rows-bytes =
+          let w = rowBytes n in
+          let e = acc .size in
+          concat-below (λ j. pack (row h j (library .entries))) (rowAt bytes z) h
+          (λ j l.
+          ap pack (row-stored j l)
+          ∙ pack-bitsOf n (rowAt bytes z j) (small-part w (rowsOffset z + j * w) bytes small)
+          (chunk-fits w (rowsOffset z) h j bytes (omega arith) l) (acc .unused j l))
+          ∙ concat-chunks w bytes (rowsOffset z) h
+
+      pub encode-contents : encode (contents bytes) ≡ bytes
+      encode-contents =
+          encode-parts library contents-valid
+          ∙ ap₂ (λ (x y : List ℕ). x ++ y)
+          (ap (λ (y : Sizes). concat (map littleEndian (header y ++ tableFrom 0 (library .lengths)))) sizes-same ∙ numbers-bytes)
+          (ap₂ (λ (x y : List ℕ). x ++ y) samples-bytes rows-bytes)
+          ∙ sym (append-assoc (take (samplesOffset z) bytes) (take (samplesLength z) (drop (samplesOffset z) bytes)) (take (rowsLength z) (drop (rowsOffset z) bytes)))
+          ∙ ap (λ (x : List ℕ). x ++ take (rowsLength z) (drop (rowsOffset z) bytes)) (sym (take-add (samplesOffset z) (samplesLength z) bytes))
+          ∙ sym (take-add (rowsOffset z) (rowsLength z) bytes)
+          ∙ take-all (archiveLength z) bytes (let e = acc .size in omega arith)
+
+      pub archive-contents : archiveOf (contents bytes) ≡ answered bytes
+      archive-contents = archive-valid library contents-valid ∙ ap answered encode-contents

@@ -8,10 +8,12 @@ use lib.ListN.{length, take, drop, replicate, length-replicate, length-drop, tak
 use lib.Seq.{length-take-le, take-at, drop-at}
 use lib.Dec.{leb, ltb, eqb}
 use Rattle.bits.specs.Sequences.{occurrences}
+use Rattle.bits.specs.Bits.{bitsOf}
 use Rattle.bits.proofs.Tally.{tally-le-length}
+use Rattle.bits.proofs.Bits.{length-bitsOf, getD-bitsOf, bitAt-lt}
 use Rattle.model.specs.Lists.{keep, Within}
 use Rattle.model.specs.Rows.{row, interleave, decode}
-use Rattle.model.proofs.Lists.{within-take, within-drop}
+use Rattle.model.proofs.Lists.{within-take, within-drop, within-of}
 use Rattle.model.proofs.Wavelet.Rows.{row-length, RowsOf}
 use Rattle.model.proofs.Wavelet.Mix.{Mix, mix-lows, mix-highs, mix-bits, mix-within, mix-lows-within, mix-highs-within, mix-zeros, mix-length, mix-is, mix-of, mix-make}
 use Rattle.model.proofs.Wavelet.Split.{row-top, row-suc}
@@ -110,6 +112,13 @@ decode-rows (suc h) xs b =
 
     cut : (j : ℕ) → j < h → row (suc h) (suc j) xs ≡ row h j ls ++ row h j hs
     cut j l = row-suc h j xs ls hs l (mix-lows mix) (mix-highs mix)
+
+-- rows that are read from bytes: whatever the bytes, they are the rows of the list that they decode to
+pub decoded-bits : (h n : ℕ) (bytes : ℕ → List ℕ) → RowsOf h n (decode h n (λ j. bitsOf n (bytes j))) (λ j. bitsOf n (bytes j))
+decoded-bits h n bytes = decoded h n (λ j. bitsOf n (bytes j)) (λ j l. length-bitsOf n (bytes j)) (λ j l. within-bitsOf (bytes j))
+  where
+    within-bitsOf : (row : List ℕ) → Within 2 (bitsOf n row)
+    within-bitsOf row = within-of 2 (bitsOf n row) (λ i l. rw (getD-bitsOf n row i (rw (length-bitsOf n row) at l)) (bitAt-lt row i))
 
 pub decode-of : {h n : ℕ} {xs : List ℕ} {rows : ℕ → List ℕ} → RowsOf h n xs rows → decode h n rows ≡ xs
 decode-of {h} {n} {xs} {rows} R =
