@@ -102,6 +102,7 @@ pub fn next_common(archive: &[u8], l: Layout, q: Terms, from: usize, path: &mut 
                 count,
             };
         } else {
+            // The zero half is tried first; what comes after it is the one half.
             open_node(archive, l, q, level, number, path);
             node = Node {
                 level: level + 1,

@@ -23,7 +23,7 @@ use Rattle.moves.proofs.Kept.{front-at, indexOf}
 use Rattle.moves.proofs.Opens as moves
 use Rattle.search.specs.declared.Search.{Search}
 use Rattle.search.specs.Searchable.{Searchable, rangeOf}
-use Rattle.greedy.specs.Records.{spanIn, lowOf, highOf}
+use Rattle.greedy.specs.Records.{spanIn, zeroOf, oneOf}
 use Rattle.greedy.specs.Grounds.{groundOf}
 use Rattle.greedy.proofs.Grounds.{inside, sound}
 use Rattle.greedy.proofs.Records.{span-back, low-is, high-is}
@@ -63,8 +63,8 @@ module _ (bytes : List ℕ) (s : Search) (ok : Searchable bytes s) (w : List ℕ
 
   -- ---- by which halves wait
 
-  module _ (low high : Record) (el : low ≡ lowOf (levelOf bytes (s .levels) (r .second % 16)) r)
-      (eh : high ≡ highOf h (levelOf bytes (s .levels) (r .second % 16)) r) where
+  module _ (low high : Record) (el : low ≡ zeroOf (levelOf bytes (s .levels) (r .second % 16)) r)
+      (eh : high ≡ oneOf h (levelOf bytes (s .levels) (r .second % 16)) r) where
     low-record : low ≡ recordIn G (node l (2 * q))
     low-record = el ∙ low-is bytes s ok l q (moves.t G (sound bytes s ok) w m r kept f d) r first
 

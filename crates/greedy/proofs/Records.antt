@@ -1,13 +1,14 @@
 -- The four numbers of a waiting node: they are the record of the ground, and the places read back.
 use Prim.Native.Nat.{ℕ, suc, _+_, _-_, _*_, _/_, _%_, _^_, _≤_}
 use native.Mathlib.Omega.{arith}
-use native.Mathlib.Nat.{pow-suc}
+use native.Mathlib.Nat.{le-trans, pow-suc}
 use mathlib.Core.Path.{_≡_, ap, ap₂, _∙_}
 use mathlib.Core.List.{List}
 use mathlib.Core.Bool.{true}
 use Rattle.frontier.specs.declared.Record.{Record}
 use Rattle.wavelet.specs.Levels.{entriesIn, levelOf}
 use Rattle.wavelet.specs.Spans.{spanOf, halvesOf}
+use Rattle.wavelet.proofs.Stored.{within-entriesIn}
 use Rattle.wavelet.proofs.Spans.{span-count, span-ordered, span-halves}
 use Rattle.model.specs.TopK.{node, countIn}
 use Rattle.moves.specs.Ground.{recordIn}
@@ -15,7 +16,7 @@ use Rattle.moves.proofs.Tree.{inTree, tree-height, tree-index, tree-low, tree-h
 use Rattle.moves.proofs.Records.{second-start, second-depth}
 use Rattle.search.specs.declared.Search.{Search}
 use Rattle.search.specs.Searchable.{Searchable, rangeOf}
-use Rattle.greedy.specs.Records.{packed, spanIn, lowOf, highOf}
+use Rattle.greedy.specs.Records.{packed, spanIn, zeroOf, oneOf}
 use Rattle.greedy.specs.Grounds.{spanAt, groundOf}
 use Rattle.greedy.proofs.Grounds.{inside, few}
 
@@ -62,22 +63,22 @@ module _ (bytes : List ℕ) (s : Search) (ok : Searchable bytes s) where
     deeper = omega (arith, tree-height h (suc l) q t)
 
     split : halvesOf (levelOf bytes (s .levels) (r .second % 16)) (spanIn r)
-        ≡ record { low = spanAt bytes s (node l (2 * q)); high = spanAt bytes s (node l (2 * q + 1)) }
+        ≡ record { zero = spanAt bytes s (node l (2 * q)); one = spanAt bytes s (node l (2 * q + 1)) }
     split =
         (λ i. halvesOf (levelOf bytes (s .levels) (depth i)) ((ap spanIn e ∙ span-back (suc l) q) i))
-        ∙ span-halves h xs (s .a) (s .b) (h - suc l) q (omega (arith, tree-height h (suc l) q t)) (tree-index h (suc l) q t)
-        ∙ ap (λ (j : ℕ). record { low = spanOf h xs (s .a) (s .b) j (2 * q); high = spanOf h xs (s .a) (s .b) j (2 * q + 1) }) deeper
+        ∙ span-halves h xs (s .a) (s .b) (within-entriesIn bytes (s .levels)) (le-trans (ok .ordered) (inside bytes s ok)) (inside bytes s ok) (h - suc l) q (omega (arith, tree-height h (suc l) q t)) (tree-index h (suc l) q t)
+        ∙ ap (λ (j : ℕ). record { zero = spanOf h xs (s .a) (s .b) j (2 * q); one = spanOf h xs (s .a) (s .b) j (2 * q + 1) }) deeper
 
-    pub low-is : lowOf (levelOf bytes (s .levels) (r .second % 16)) r ≡ recordIn (groundOf bytes s) (node l (2 * q))
+    pub low-is : zeroOf (levelOf bytes (s .levels) (r .second % 16)) r ≡ recordIn (groundOf bytes s) (node l (2 * q))
     low-is =
         let f : r .second / 16 ≡ 2 * q * 2 ^ l = first ∙ simp (pow-suc 2) (omega arith) in
         let d : r .second % 16 + 1 ≡ h - l = omega (arith, depth, deeper) in
-        (λ i. packed (f i) (d i) (split i .low)) ∙ record-is l (2 * q) (tree-height h l (2 * q) (tree-low h l q t))
+        (λ i. packed (f i) (d i) (split i .zero)) ∙ record-is l (2 * q) (tree-height h l (2 * q) (tree-low h l q t))
 
-    pub high-is : highOf h (levelOf bytes (s .levels) (r .second % 16)) r ≡ recordIn (groundOf bytes s) (node l (2 * q + 1))
+    pub high-is : oneOf h (levelOf bytes (s .levels) (r .second % 16)) r ≡ recordIn (groundOf bytes s) (node l (2 * q + 1))
     high-is =
         let k : h - 1 - r .second % 16 ≡ l = omega (arith, depth, tree-height h (suc l) q t) in
         let g : q * 2 ^ suc l + 2 ^ l ≡ (2 * q + 1) * 2 ^ l = simp (pow-suc 2) (omega arith) in
         let f : r .second / 16 + 2 ^ (h - 1 - r .second % 16) ≡ (2 * q + 1) * 2 ^ l = ap₂ (λ (x j : ℕ). x + 2 ^ j) first k ∙ g in
         let d : r .second % 16 + 1 ≡ h - l = omega (arith, depth, deeper) in
-        (λ i. packed (f i) (d i) (split i .high)) ∙ record-is l (2 * q + 1) (tree-height h l (2 * q + 1) (tree-high h l q t))
+        (λ i. packed (f i) (d i) (split i .one)) ∙ record-is l (2 * q + 1) (tree-height h l (2 * q + 1) (tree-high h l q t))

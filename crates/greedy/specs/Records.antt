@@ -26,8 +26,8 @@ abbrev pub spanIn : Record → Span
 spanIn r = record { start = r .third / 65536; lo = r .fourth / 65536; hi = r .fourth % 65536; end = r .third % 65536 }
 
 -- the halves of a node in a level of the given bits
-abbrev pub lowOf : List ℕ → Record → Record
-lowOf bits r = packed (r .second / 16) (r .second % 16 + 1) (halvesOf bits (spanIn r) .low)
+abbrev pub zeroOf : List ℕ → Record → Record
+zeroOf bits r = packed (r .second / 16) (r .second % 16 + 1) (halvesOf bits (spanIn r) .zero)
 
-abbrev pub highOf : ℕ → List ℕ → Record → Record
-highOf h bits r = packed (r .second / 16 + 2 ^ (h - 1 - r .second % 16)) (r .second % 16 + 1) (halvesOf bits (spanIn r) .high)
+abbrev pub oneOf : ℕ → List ℕ → Record → Record
+oneOf h bits r = packed (r .second / 16 + 2 ^ (h - 1 - r .second % 16)) (r .second % 16 + 1) (halvesOf bits (spanIn r) .one)

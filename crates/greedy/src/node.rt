@@ -6,12 +6,12 @@ ghost use mathlib.Core.Path.{_≡_};
 ghost use Prim.Native.Nat.{_%_, _<_};
 ghost use Rattle.wavelet.specs.Levels.{Stored, levelOf};
 ghost use Rattle.wavelet.specs.Spans.{Ordered};
-ghost use Rattle.greedy.specs.Records.{packed, spanIn, lowOf, highOf};
+ghost use Rattle.greedy.specs.Records.{packed, spanIn, zeroOf, oneOf};
 
-// The halves of a node, as they wait.
+// The zero half and the one half of a node, as they wait.
 pub struct Two {
-    pub low: Record,
-    pub high: Record,
+    pub zero: Record,
+    pub one: Record,
 }
 
 // The node of a start and a depth.
@@ -43,14 +43,14 @@ fn span(r: Record) -> Span
 pub fn halves(bytes: &[u8], t: Levels, r: Record) -> Two
     requires { ⌜ Stored (now bytes) t ⌝ }
     requires { ⌜ (r .second % 16 < t .height) × (r .second < 65536) × Ordered (t .entries) (spanIn r) ⌝ }
-    ensures { λ x. ⌜ x .low ≡ lowOf (levelOf (now (bytes .entry)) t (r .second % 16)) r ⌝ }
-    ensures { λ x. ⌜ x .high ≡ highOf (t .height) (levelOf (now (bytes .entry)) t (r .second % 16)) r ⌝ }
+    ensures { λ x. ⌜ x .zero ≡ zeroOf (levelOf (now (bytes .entry)) t (r .second % 16)) r ⌝ }
+    ensures { λ x. ⌜ x .one ≡ oneOf (t .height) (levelOf (now (bytes .entry)) t (r .second % 16)) r ⌝ }
 {
     let start = r.second / 16;
     let depth = r.second % 16;
     let below = t.height - 1 - depth as usize;
     let two = wavelet::halve(bytes, t, depth as usize, span(r));
-    let low = pack(start, depth + 1, two.low);
-    let high = pack(start + (1 << below), depth + 1, two.high);
-    Two { low, high }
+    let zero = pack(start, depth + 1, two.zero);
+    let one = pack(start + (1 << below), depth + 1, two.one);
+    Two { zero, one }
 }

@@ -10,7 +10,7 @@ ghost use Rattle.search.specs.Searchable.{Searchable};
 ghost use Rattle.moves.specs.Moves.{Kept, Moves, First, frontierIn, nextMove, onceOpened, movedIs};
 ghost use Rattle.greedy.specs.Grounds.{groundOf};
 
-// Opens the first of the waiting nodes, r, which is no leaf: its halves wait, unless none of the range's entries are in them.
+// Opens the first of the waiting nodes, r, which is no leaf: its zero half is tried, then its one half. A half waits unless none of the range's entries are in it.
 fn open(bytes: &[u8], s: Search, work: &mut [u32], waiting: usize, r: Record) -> usize
     requires { ⌜ Searchable (now bytes) s ⌝ }
     requires { ⌜ Kept (groundOf (now bytes) s) (now work) waiting ⌝ }
@@ -19,17 +19,17 @@ fn open(bytes: &[u8], s: Search, work: &mut [u32], waiting: usize, r: Record) ->
     ensures { λ n. ⌜ Moves (groundOf (now (bytes .entry)) s) (now (work .entry)) (onceOpened (groundOf (now (bytes .entry)) s) (now (work .entry)) waiting) (now (work .exit)) n ⌝ }
 {
     let two = halves(bytes, s.levels, r);
-    let low = two.low;
-    let high = two.high;
-    if low.first == 0 {
-        frontier::replace_top(work, waiting, high);
+    let zero = two.zero;
+    let one = two.one;
+    if zero.first == 0 {
+        frontier::replace_top(work, waiting, one);
         return waiting;
     }
-    if high.first == 0 {
-        frontier::replace_top(work, waiting, low);
+    if one.first == 0 {
+        frontier::replace_top(work, waiting, zero);
         return waiting;
     }
-    frontier::open_top(work, waiting, high, low);
+    frontier::open_top(work, waiting, one, zero);
     waiting + 1
 }
 

@@ -1,7 +1,7 @@
 -- The listing by a descent: a node's documents are those of its halves, and the root's are those of the range.
 use Prim.Native.Nat.{ℕ, zero, suc, _+_, _-_, _*_, _^_, _≤_, _<_}
 use native.Mathlib.Omega.{arith}
-use native.Mathlib.Nat.{sub-zero, zero-add, two-pow-succ, pow-suc, mul-one, zero-mul}
+use native.Mathlib.Nat.{le-trans, sub-zero, zero-add, two-pow-succ, pow-suc, mul-one, zero-mul}
 use mathlib.Core.Path.{_≡_, sym, ap, _∙_}
 use mathlib.Core.List.{List, [], _∷_, _++_, map, append-nil}
 use lib.ListN.{length, length-append, length-map}
@@ -40,8 +40,8 @@ pairs-empty rows zero j q s e =
     ap (λ (c : ℕ). keep present (record { document = q; count = c } ∷ [])) z
 pairs-empty rows (suc m) j q s e =
     let two : Halves = halvesOf (rows j) s in
-    (λ i. pairs-empty rows m (suc j) (2 * q) (two .low) (ap (λ (p : ℕ). halvesOf (rows j) (record { start = s .start; lo = p; hi = p; end = s .end }) .low .lo) e) i
-    ++ pairs-empty rows m (suc j) (2 * q + 1) (two .high) (ap (λ (p : ℕ). halvesOf (rows j) (record { start = s .start; lo = p; hi = p; end = s .end }) .high .lo) e) i)
+    (λ i. pairs-empty rows m (suc j) (2 * q) (two .zero) (ap (λ (p : ℕ). halvesOf (rows j) (record { start = s .start; lo = p; hi = p; end = s .end }) .zero .lo) e) i
+    ++ pairs-empty rows m (suc j) (2 * q + 1) (two .one) (ap (λ (p : ℕ). halvesOf (rows j) (record { start = s .start; lo = p; hi = p; end = s .end }) .one .lo) e) i)
 
 module _ (bytes : List ℕ) (t : Levels) (j q : ℕ) (s : Span) where
   -- a leaf with entries of the range
@@ -52,15 +52,15 @@ module _ (bytes : List ℕ) (t : Levels) (j q : ℕ) (s : Span) where
 
   -- a node above the leaves
   module _ (two : Halves) (e : two ≡ halvesOf (levelOf bytes t j) s) (l : j < t .height) where
-    pub pairs-halves : pairsUnder bytes t (j + 1) (2 * q) (two .low) ++ pairsUnder bytes t (j + 1) (2 * q + 1) (two .high) ≡ pairsUnder bytes t j q s
+    pub pairs-halves : pairsUnder bytes t (j + 1) (2 * q) (two .zero) ++ pairsUnder bytes t (j + 1) (2 * q + 1) (two .one) ≡ pairsUnder bytes t j q s
     pairs-halves =
         let rows : suc (t .height - suc j) ≡ t .height - j = omega arith in
         rw (e, add-one) (ap (λ (m : ℕ). pairsFrom (levelOf bytes t) m j q s) rows)
 
     pub pairs-count : length (pairsUnder bytes t j q s)
-        ≡ length (pairsUnder bytes t (j + 1) (2 * q) (two .low)) + length (pairsUnder bytes t (j + 1) (2 * q + 1) (two .high))
+        ≡ length (pairsUnder bytes t (j + 1) (2 * q) (two .zero)) + length (pairsUnder bytes t (j + 1) (2 * q + 1) (two .one))
     pairs-count =
-        ap length (sym pairs-halves) ∙ length-append (pairsUnder bytes t (j + 1) (2 * q) (two .low)) (pairsUnder bytes t (j + 1) (2 * q + 1) (two .high))
+        ap length (sym pairs-halves) ∙ length-append (pairsUnder bytes t (j + 1) (2 * q) (two .zero)) (pairsUnder bytes t (j + 1) (2 * q + 1) (two .one))
 
 -- ---- what the descent lists
 
@@ -73,7 +73,7 @@ numbers-node m q =
     (λ i. upFrom (first i) (2 ^ m) ++ upFrom (next i) (2 ^ m)) ∙ sym (upFrom-append (q * 2 ^ suc m) (2 ^ m) (2 ^ m))
     ∙ ap (upFrom (q * 2 ^ suc m)) width
 
-module _ (h : ℕ) (xs : List ℕ) (a b : ℕ) (ab : a ≤ b) where
+module _ (h : ℕ) (xs : List ℕ) (w : Within (2 ^ h) xs) (a b : ℕ) (ab : a ≤ b) (bn : b ≤ length xs) where
   -- the numbers of the node q, m rows above the leaves, that occur in the range
   pub pairs-node : (m j q : ℕ) → j + m ≡ h → q < 2 ^ j
       → pairsFrom (λ j. row h j xs) m j q (spanOf h xs a b j q) ≡ keep present (map (pairOf (part a b xs)) (upFrom (q * 2 ^ m) (2 ^ m)))
@@ -84,8 +84,8 @@ module _ (h : ℕ) (xs : List ℕ) (a b : ℕ) (ab : a ≤ b) where
       ap (λ (n : ℕ). keep present (record { document = q; count = n } ∷ [])) c
       ∙ ap (λ (d : ℕ). keep present (pairOf (part a b xs) d ∷ [])) (sym (mul-one q))
   pairs-node (suc m) j q e l =
-      ap (λ (two : Halves). pairsFrom (λ j. row h j xs) m (suc j) (2 * q) (two .low) ++ pairsFrom (λ j. row h j xs) m (suc j) (2 * q + 1) (two .high))
-      (span-halves h xs a b j q (omega arith) l)
+      ap (λ (two : Halves). pairsFrom (λ j. row h j xs) m (suc j) (2 * q) (two .zero) ++ pairsFrom (λ j. row h j xs) m (suc j) (2 * q + 1) (two .one))
+      (span-halves h xs a b w (le-trans ab bn) bn j q (omega arith) l)
       ∙ (λ i. pairs-node m (suc j) (2 * q) (omega arith) (rw (two-pow-succ j) (omega arith)) i ++ pairs-node m (suc j) (2 * q + 1) (omega arith) (rw (two-pow-succ j) (omega arith)) i)
       ∙ sym (keep-append present (map f (upFrom (2 * q * 2 ^ m) (2 ^ m))) (map f (upFrom ((2 * q + 1) * 2 ^ m) (2 ^ m))))
       ∙ ap (keep present) (sym (map-append f (upFrom (2 * q * 2 ^ m) (2 ^ m)) (upFrom ((2 * q + 1) * 2 ^ m) (2 ^ m))) ∙ ap (map f) (numbers-node m q))
@@ -102,7 +102,7 @@ pairs-root bytes t a b ab bl =
     let n = length-entriesIn bytes t in
     (λ i. pairsFrom (levelOf bytes t) (sub-zero h i) 0 0 (record { start = 0; lo = a; hi = b; end = sym n i }))
     ∙ ap (pairsFrom (levelOf bytes t) h 0 0) (sym (span-root h xs a b (within-entriesIn bytes t) (omega arith) (omega arith)))
-    ∙ pairs-node h xs a b ab h 0 0 (zero-add h) (omega arith)
+    ∙ pairs-node h xs (within-entriesIn bytes t) a b ab (omega arith) h 0 0 (zero-add h) (omega arith)
     ∙ ap (λ (s : ℕ). keep present (map (pairOf (part a b xs)) (upFrom s (2 ^ h)))) (zero-mul (2 ^ h))
 
 -- ---- the listing of documents below N

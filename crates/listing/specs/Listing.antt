@@ -19,11 +19,11 @@ listOf lib ends answers =
     pairsInto answers
     (andThen (between lib ends) (λ xs. refuse 12 (ltb (length answers) (2 * lib .documents)) (answered (listing (lib .documents) xs))))
 
--- the documents below the node q of level j with the range's places in it, m rows above the leaves: of the low half, then of the high half
+-- the documents below the node q of level j with the range's places in it, m rows above the leaves: of the zero half, then of the one half
 abbrev pub pairsFrom : (ℕ → List ℕ) → ℕ → ℕ → ℕ → Span → List Pair
 pairsFrom rows zero j q s = keep present (record { document = q; count = s .hi - s .lo } ∷ [])
 pairsFrom rows (suc m) j q s =
-    pairsFrom rows m (suc j) (2 * q) (halvesOf (rows j) s .low) ++ pairsFrom rows m (suc j) (2 * q + 1) (halvesOf (rows j) s .high)
+    pairsFrom rows m (suc j) (2 * q) (halvesOf (rows j) s .zero) ++ pairsFrom rows m (suc j) (2 * q + 1) (halvesOf (rows j) s .one)
 
 abbrev pub pairsUnder : List ℕ → Levels → ℕ → ℕ → Span → List Pair
 pairsUnder bytes t j q s = pairsFrom (levelOf bytes t) (t .height - j) j q s

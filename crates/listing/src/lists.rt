@@ -25,7 +25,8 @@ ghost use Rattle.answers.specs.Written.{Written, Lists};
 ghost use Rattle.listing.specs.Listing.{listOf, pairsUnder};
 
 // The documents of the range lo to hi of the node q of level j, which spans start to end, as pairs from pair number `at` on.
-// Rows that remain fall at each call, and an empty half is not entered. The places pass as numbers: a struct would be copied on the way.
+// The zero half is tried, then the one half; an empty one is left at once. Rows that remain fall at each call. The places pass as numbers: a struct would be
+// copied on the way.
 fn list_node(
     bytes: &[u8],
     t: Levels,
@@ -51,17 +52,17 @@ fn list_node(
         return at + 1;
     }
     let two = halve(bytes, t, j, Span { start, lo, hi, end });
-    let low = two.low;
-    let high = two.high;
+    let zero = two.zero;
+    let one = two.one;
     let middle = list_node(
         bytes,
         t,
         j + 1,
         2 * q,
-        low.start,
-        low.lo,
-        low.hi,
-        low.end,
+        zero.start,
+        zero.lo,
+        zero.hi,
+        zero.end,
         at,
         answers,
     );
@@ -70,10 +71,10 @@ fn list_node(
         t,
         j + 1,
         2 * q + 1,
-        high.start,
-        high.lo,
-        high.hi,
-        high.end,
+        one.start,
+        one.lo,
+        one.hi,
+        one.end,
         middle,
         answers,
     )

@@ -73,7 +73,7 @@ module _ (bytes : List ℕ) (l : Layout) (o : Opened bytes l) (q : Terms) (a : A
 
       pub span-halves-are : j < l .levels .height → number < 2 ^ j
           → halvesOf bits (spanIn node (getD path (2 * (frame + 1 + k)) 0) (getD path (2 * (frame + 1 + k) + 1) 0))
-          ≡ record { low = span (suc j) (2 * number) k; high = span (suc j) (2 * number + 1) k }
+          ≡ record { zero = span (suc j) (2 * number) k; one = span (suc j) (2 * number + 1) k }
       span-halves-are d n = ap (halvesOf bits) (range-is path frame k m (whole-at k m) node e) ∙ span-two bytes l o q a eight j number k d n
 
   -- the bounds of its halves
@@ -85,15 +85,15 @@ module _ (bytes : List ℕ) (l : Layout) (o : Opened bytes l) (q : Terms) (a : A
       pub low-bounds : (i : ℕ) → (node .start ≡ span (suc j) (2 * number) i .start) × (node .middle ≡ span (suc j) (2 * number) i .end)
       low-bounds i =
           let two = span-two bytes l o q a eight j number i d n in (
-            ap (λ (r : Ranked). r .start) e ∙ ap (λ (h : Halves). h .low .start) two,
-            ap (λ (r : Ranked). r .middle) e ∙ ap (λ (h : Halves). h .low .end) two,
+            ap (λ (r : Ranked). r .start) e ∙ ap (λ (h : Halves). h .zero .start) two,
+            ap (λ (r : Ranked). r .middle) e ∙ ap (λ (h : Halves). h .zero .end) two,
           )
 
       pub high-bounds : (i : ℕ) → (node .middle ≡ span (suc j) (2 * number + 1) i .start) × (node .end ≡ span (suc j) (2 * number + 1) i .end)
       high-bounds i =
           let two = span-two bytes l o q a eight j number i d n in (
-            ap (λ (r : Ranked). r .middle) e ∙ ap (λ (h : Halves). h .high .start) two,
-            ap (λ (r : Ranked). r .end) e ∙ ap (λ (h : Halves). h .high .end) two,
+            ap (λ (r : Ranked). r .middle) e ∙ ap (λ (h : Halves). h .one .start) two,
+            ap (λ (r : Ranked). r .end) e ∙ ap (λ (h : Halves). h .one .end) two,
           )
 
       pub known-few : (node .start ≤ l .levels .entries) × (node .middle ≤ l .levels .entries) × (node .end ≤ l .levels .entries)

@@ -64,8 +64,8 @@ module _ (span : ℕ → ℕ → ℕ → Span) (size j q : ℕ) (few : size ≤ 
     filling-front = λ i m. put-below two (18 * (j + 1)) path bounds-fit i (omega arith)
 
     pub filling-start : Whole span size path j q
-        → ((i : ℕ) → (two .low .lo ≡ span (suc j) (2 * q) i .start) × (two .low .hi ≡ span (suc j) (2 * q) i .end))
-        → ((i : ℕ) → (two .high .lo ≡ span (suc j) (2 * q + 1) i .start) × (two .high .hi ≡ span (suc j) (2 * q + 1) i .end))
+        → ((i : ℕ) → (two .zero .lo ≡ span (suc j) (2 * q) i .start) × (two .zero .hi ≡ span (suc j) (2 * q) i .end))
+        → ((i : ℕ) → (two .one .lo ≡ span (suc j) (2 * q + 1) i .start) × (two .one .hi ≡ span (suc j) (2 * q + 1) i .end))
         → Filling span size j q (putHalves two (18 * (j + 1)) path) 0
     filling-start w lb hb =
         let low = put-low two (18 * (j + 1)) path bounds-fit in
@@ -82,7 +82,7 @@ module _ (span : ℕ → ℕ → ℕ → Span) (size j q : ℕ) (few : size ≤ 
 
   module _ {path : List ℕ} {k : ℕ} (o : Filling span size j q path k) where
     -- one term more
-    module _ (l : k < size) (two : Halves) (e : two ≡ record { low = span (suc j) (2 * q) k; high = span (suc j) (2 * q + 1) k }) where
+    module _ (l : k < size) (two : Halves) (e : two ≡ record { zero = span (suc j) (2 * q) k; one = span (suc j) (2 * q + 1) k }) where
       abbrev after : List ℕ
       after = putHalves two (18 * (j + 1) + 1 + k) path
 
@@ -106,8 +106,8 @@ module _ (span : ℕ → ℕ → ℕ → Span) (size j q : ℕ) (few : size ≤ 
               subst (λ (x : ℕ). rangeIn after (18 * (j + 1)) x ≡ span (suc j) (2 * q) x) same
               (λ t. record {
                 start = (before (2 * (18 * (j + 1))) (omega arith) ∙ o .low-bounds k .0) t;
-                lo = (put .0 ∙ ap (λ (h : Halves). h .low .lo) e) t;
-                hi = (put .1 ∙ ap (λ (h : Halves). h .low .hi) e) t;
+                lo = (put .0 ∙ ap (λ (h : Halves). h .zero .lo) e) t;
+                hi = (put .1 ∙ ap (λ (h : Halves). h .zero .hi) e) t;
                 end = (before (2 * (18 * (j + 1)) + 1) (omega arith) ∙ o .low-bounds k .1) t;
               })
           go (inr n) =
@@ -129,8 +129,8 @@ module _ (span : ℕ → ℕ → ℕ → Span) (size j q : ℕ) (few : size ≤ 
               subst (λ (x : ℕ). rangeIn after (18 * (j + 1) + 9) x ≡ span (suc j) (2 * q + 1) x) same
               (λ t. record {
                 start = (between (2 * (18 * (j + 1) + 9)) (omega arith) (omega arith) ∙ o .high-bounds k .0) t;
-                lo = (ap (λ (x : ℕ). getD after x 0) at ∙ put .0 ∙ ap (λ (h : Halves). h .high .lo) e) t;
-                hi = (ap (λ (x : ℕ). getD after (x + 1) 0) at ∙ put .1 ∙ ap (λ (h : Halves). h .high .hi) e) t;
+                lo = (ap (λ (x : ℕ). getD after x 0) at ∙ put .0 ∙ ap (λ (h : Halves). h .one .lo) e) t;
+                hi = (ap (λ (x : ℕ). getD after (x + 1) 0) at ∙ put .1 ∙ ap (λ (h : Halves). h .one .hi) e) t;
                 end = (between (2 * (18 * (j + 1) + 9) + 1) (omega arith) (omega arith) ∙ o .high-bounds k .1) t;
               })
           go (inr n) =
@@ -174,8 +174,8 @@ module _ (span : ℕ → ℕ → ℕ → Span) (size j q : ℕ) (few : size ≤ 
   -- ---- where dead halves are left alone
 
   pub opening-start : (path : List ℕ) (two : Halves) → length path ≡ 468 → Held span size path j q → Whole span size path j q
-      → ((i : ℕ) → (two .low .lo ≡ span (suc j) (2 * q) i .start) × (two .low .hi ≡ span (suc j) (2 * q) i .end))
-      → ((i : ℕ) → (two .high .lo ≡ span (suc j) (2 * q + 1) i .start) × (two .high .hi ≡ span (suc j) (2 * q + 1) i .end))
+      → ((i : ℕ) → (two .zero .lo ≡ span (suc j) (2 * q) i .start) × (two .zero .hi ≡ span (suc j) (2 * q) i .end))
+      → ((i : ℕ) → (two .one .lo ≡ span (suc j) (2 * q + 1) i .start) × (two .one .hi ≡ span (suc j) (2 * q + 1) i .end))
       → Opening span size j q (putHalves two (18 * (j + 1)) path) 1 1 0
   opening-start path two n h w lb hb = record {
     filling = filling-start path two n w lb hb;
@@ -185,7 +185,7 @@ module _ (span : ℕ → ℕ → ℕ → Span) (size j q : ℕ) (few : size ≤ 
   }
 
   module _ {path : List ℕ} {low high k : ℕ} (o : Opening span size j q path low high k) where
-    module _ (l : k < size) (two : Halves) (e : two ≡ record { low = span (suc j) (2 * q) k; high = span (suc j) (2 * q + 1) k }) where
+    module _ (l : k < size) (two : Halves) (e : two ≡ record { zero = span (suc j) (2 * q) k; one = span (suc j) (2 * q + 1) k }) where
       abbrev put : List ℕ
       put = putHalves two (18 * (j + 1) + 1 + k) path
 
@@ -197,17 +197,17 @@ module _ (span : ℕ → ℕ → ℕ → Span) (size j q : ℕ) (few : size ≤ 
           go (inl m) = record { which = k; lt = omega arith; none = omega arith }
           go (inr m) = let d = f (omega arith) in record { which = d .which; lt = let b = d .lt in omega arith; none = d .none }
 
-      pub opening-next : (a b : ℕ) → a ≡ two .low .hi - two .low .lo → b ≡ two .high .hi - two .high .lo → Opening span size j q put (min low a) (min high b) (k + 1)
+      pub opening-next : (a b : ℕ) → a ≡ two .zero .hi - two .zero .lo → b ≡ two .one .hi - two .one .lo → Opening span size j q put (min low a) (min high b) (k + 1)
       opening-next a b ea eb =
           let n : suc k ≡ k + 1 = sym (add-one k) in
           record {
             filling = filling-next (o .filling) l two e;
             held = held-kept (Right span size) path put (right-kept span size few path put) j q (filling-next-front (o .filling) l two e) (o .held);
-            low-dead = λ z. subst (Dead span (suc j) (2 * q)) n (dead-next low a (2 * q) (o .low-dead) (ea ∙ ap (λ (h : Halves). h .low .hi - h .low .lo) e) z);
-            high-dead = λ z. subst (Dead span (suc j) (2 * q + 1)) n (dead-next high b (2 * q + 1) (o .high-dead) (eb ∙ ap (λ (h : Halves). h .high .hi - h .high .lo) e) z);
+            low-dead = λ z. subst (Dead span (suc j) (2 * q)) n (dead-next low a (2 * q) (o .low-dead) (ea ∙ ap (λ (h : Halves). h .zero .hi - h .zero .lo) e) z);
+            high-dead = λ z. subst (Dead span (suc j) (2 * q + 1)) n (dead-next high b (2 * q + 1) (o .high-dead) (eb ∙ ap (λ (h : Halves). h .one .hi - h .one .lo) e) z);
           }
 
-    -- no term is left, or one has no entry in the low half and one has none in the high half
+    -- no term is left, or one has no entry in the zero half and one has none in the one half
     module _ (t : (size ≤ k) ⊎ ((low ≡ 0) × (high ≡ 0))) where
       half-right : (frame number n : ℕ) → frame ≡ frameOf (suc j) number → (n ≡ 0 → Dead span (suc j) number k) → ((size ≤ k) ⊎ (n ≡ 0))
           → ((i : ℕ) → i < k → rangeIn path frame i ≡ span (suc j) number i) → Right span size path (suc j) number

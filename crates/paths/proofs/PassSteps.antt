@@ -10,7 +10,6 @@ use Rattle.bits.proofs.Tests.{le-or-lt}
 use Rattle.model.specs.Opening.{contents}
 use Rattle.model.specs.Queries.{under}
 use Rattle.model.specs.TopK.{node, countIn}
-use Rattle.model.specs.Walk.{left}
 use Rattle.model.proofs.Greedy.Counts.{count-halves}
 use Rattle.wavelet.specs.declared.Span.{Span}
 use Rattle.wavelet.specs.declared.Halves.{Halves}
@@ -77,31 +76,31 @@ module _ (bytes : List ℕ) (l : Layout) (o : Opened bytes l) (q : Terms) (a : A
       abbrev here : Span
       here = passed j number k
 
-      two : halvesOf bits (span j number k) ≡ record { low = span (suc j) (2 * number) k; high = span (suc j) (2 * number + 1) k }
+      two : halvesOf bits (span j number k) ≡ record { zero = span (suc j) (2 * number) k; one = span (suc j) (2 * number + 1) k }
       two = span-two bytes l o q a eight j number k d n
 
-      middle : left bits (here .start) (here .end) ≡ left bits (span j number k .start) (span j number k .end)
-      middle = ap₂ (left bits) (passed-bounds span j number k .0) (passed-bounds span j number k .1)
+      middle : rankedOf bits (here .start) (here .end) .middle ≡ rankedOf bits (span j number k .start) (span j number k .end) .middle
+      middle = ap₂ (λ (s e : ℕ). rankedOf bits s e .middle) (passed-bounds span j number k .0) (passed-bounds span j number k .1)
 
-      halves-here : passingBoth here (halvesOf bits here) ≡ record { low = passing here (span (suc j) (2 * number) k); high = passing here (span (suc j) (2 * number + 1) k) }
+      halves-here : passingBoth here (halvesOf bits here) ≡ record { zero = passing here (span (suc j) (2 * number) k); one = passing here (span (suc j) (2 * number + 1) k) }
       halves-here = go (le-or-lt (here .hi) (here .lo))
         where
           go : (here .hi ≤ here .lo) ⊎ (here .lo < here .hi)
-              → passingBoth here (halvesOf bits here) ≡ record { low = passing here (span (suc j) (2 * number) k); high = passing here (span (suc j) (2 * number + 1) k) }
+              → passingBoth here (halvesOf bits here) ≡ record { zero = passing here (span (suc j) (2 * number) k); one = passing here (span (suc j) (2 * number + 1) k) }
           go (inl m) =
               let b = passed-bounds span j number k in
               λ i. record {
-                low = passing-same here (halvesOf bits here .low) (span (suc j) (2 * number) k) m (b .0 ∙ ap (λ (h : Halves). h .low .start) two) (middle ∙ ap (λ (h : Halves). h .low .end) two) i;
-                high = passing-same here (halvesOf bits here .high) (span (suc j) (2 * number + 1) k) m (middle ∙ ap (λ (h : Halves). h .high .start) two) (b .1 ∙ ap (λ (h : Halves). h .high .end) two) i;
+                zero = passing-same here (halvesOf bits here .zero) (span (suc j) (2 * number) k) m (b .0 ∙ ap (λ (h : Halves). h .zero .start) two) (middle ∙ ap (λ (h : Halves). h .zero .end) two) i;
+                one = passing-same here (halvesOf bits here .one) (span (suc j) (2 * number + 1) k) m (middle ∙ ap (λ (h : Halves). h .one .start) two) (b .1 ∙ ap (λ (h : Halves). h .one .end) two) i;
               }
           go (inr m) = ap (λ (s : Span). passingBoth here (halvesOf bits s)) (passed-full span j number k m) ∙ ap (passingBoth here) two
 
-      halves-passed : passingBoth here (halvesOf bits here) ≡ record { low = passed (suc j) (2 * number) k; high = passed (suc j) (2 * number + 1) k }
+      halves-passed : passingBoth here (halvesOf bits here) ≡ record { zero = passed (suc j) (2 * number) k; one = passed (suc j) (2 * number + 1) k }
       halves-passed =
           let even : number ≡ 2 * number / 2 = omega arith in
           let odd : number ≡ (2 * number + 1) / 2 = omega arith in
           halves-here
-          ∙ (λ i. record { low = passing (passed j (even i) k) (span (suc j) (2 * number) k); high = passing (passed j (odd i) k) (span (suc j) (2 * number + 1) k) })
+          ∙ (λ i. record { zero = passing (passed j (even i) k) (span (suc j) (2 * number) k); one = passing (passed j (odd i) k) (span (suc j) (2 * number + 1) k) })
 
     -- ---- by the frame of the node
 
@@ -139,7 +138,7 @@ module _ (bytes : List ℕ) (l : Layout) (o : Opened bytes l) (q : Terms) (a : A
             }
 
         pub pass-halves : j < h → number < 2 ^ j
-            → passedIn bits x path (frame + 1 + k) ≡ record { low = passed (suc j) (2 * number) k; high = passed (suc j) (2 * number + 1) k }
+            → passedIn bits x path (frame + 1 + k) ≡ record { zero = passed (suc j) (2 * number) k; one = passed (suc j) (2 * number + 1) k }
         pass-halves d n =
             ap (λ (s : Span). passingBoth s (halvesOf bits s)) here-is ∙ halves-passed k d n
 

@@ -35,11 +35,11 @@ module _ (bits : List ℕ) (node : Ranked) (path : List ℕ) (pair : ℕ) where
   two = halvesIn bits node path pair
 
   pub pass-full : here .lo < here .hi → two ≡ passedIn bits node path pair
-  pass-full m = λ i. record { low = sym (passing-full here (two .low) m) i; high = sym (passing-full here (two .high) m) i }
+  pass-full m = λ i. record { zero = sym (passing-full here (two .zero) m) i; one = sym (passing-full here (two .one) m) i }
 
   pub put-empty : (to : ℕ) → here .hi ≤ here .lo
       → sets (sets path (2 * to) (here .lo ∷ here .hi ∷ [])) (2 * (to + 9)) (here .lo ∷ here .hi ∷ []) ≡ putHalves (passedIn bits node path pair) to path
-  put-empty to m = λ i. putHalves (record { low = sym (passing-empty here (two .low) m) i; high = sym (passing-empty here (two .high) m) i }) to path
+  put-empty to m = λ i. putHalves (record { zero = sym (passing-empty here (two .zero) m) i; one = sym (passing-empty here (two .one) m) i }) to path
 
 -- by the places that the terms have
 module _ (span : ℕ → ℕ → ℕ → Span) where

@@ -12,13 +12,14 @@ use Rattle.model.specs.Opening.{contents}
 use Rattle.model.specs.Queries.{termStart, under}
 use Rattle.model.specs.TopK.{node, countIn}
 use Rattle.model.proofs.Lists.{within-at, getD-map}
+use Rattle.model.proofs.Sums.{sum-take-le}
 use Rattle.wavelet.specs.Levels.{entriesIn, levelOf}
 use Rattle.wavelet.specs.Spans.{Ordered, halvesOf}
 use Rattle.wavelet.proofs.Stored.{length-entriesIn, within-entriesIn}
 use Rattle.wavelet.proofs.Spans.{span-root, span-halves, span-count, span-ordered}
 use Rattle.archive.specs.declared.Layout.{Layout}
 use Rattle.archive.specs.Layout.{Opened}
-use Rattle.archive.proofs.Opened.{entries-are, start-le}
+use Rattle.archive.proofs.Opened.{entries-are, lengths-total, start-le}
 use Rattle.archive.proofs.TermTable.{term-start-mono}
 use Rattle.paths.specs.declared.Terms.{Terms}
 use Rattle.paths.specs.Paths.{Asked, termSpan}
@@ -75,8 +76,13 @@ module _ (bytes : List ℕ) (l : Layout) (o : Opened bytes l) (q : Terms) (a : A
       subst (λ (e : ℕ). Ordered e (termSpan bytes l q j number k)) n (span-ordered h xs (from k) (to k) j number (from-to k) (omega arith))
 
   pub span-two : (j number k : ℕ) → j < h → number < 2 ^ j
-      → halvesOf (levelOf bytes (l .levels) j) (termSpan bytes l q j number k) ≡ record { low = termSpan bytes l q (suc j) (2 * number) k; high = termSpan bytes l q (suc j) (2 * number + 1) k }
-  span-two j number k m n = span-halves h xs (from k) (to k) j number m n
+      → halvesOf (levelOf bytes (l .levels) j) (termSpan bytes l q j number k) ≡ record { zero = termSpan bytes l q (suc j) (2 * number) k; one = termSpan bytes l q (suc j) (2 * number + 1) k }
+  span-two j number k m n =
+      let e = length-entriesIn bytes (l .levels) in
+      let total = lengths-total bytes l o in
+      let first = sum-take-le (contents bytes .lengths) (getD (q .numbers) k 0) in
+      let last = sum-take-le (contents bytes .lengths) (suc (getD (q .numbers) k 0)) in
+      span-halves h xs (from k) (to k) (within-entriesIn bytes (l .levels)) (omega arith) (omega arith) j number m n
 
   -- the entries in a node
   pub span-entries : (j number k : ℕ) → termSpan bytes l q j number k .hi - termSpan bytes l q j number k .lo ≡ countIn (under (contents bytes) (getD (q .numbers) k 0)) (node (h - j) number)

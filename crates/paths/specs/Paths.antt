@@ -57,10 +57,10 @@ halvesIn bits node path pair = halvesOf bits (pairIn node path pair)
 -- a range in both halves of a node: one pair in the frame of each
 abbrev pub putHalves : Halves → ℕ → List ℕ → List ℕ
 putHalves two pair path =
-    sets (sets path (2 * pair) (two .low .lo ∷ two .low .hi ∷ [])) (2 * (pair + 9)) (two .high .lo ∷ two .high .hi ∷ [])
+    sets (sets path (2 * pair) (two .zero .lo ∷ two .zero .hi ∷ [])) (2 * (pair + 9)) (two .one .lo ∷ two .one .hi ∷ [])
 
 abbrev pub sidesOf : Halves → Sides
-sidesOf two = record { low = two .low .hi - two .low .lo; high = two .high .hi - two .high .lo }
+sidesOf two = record { zero = two .zero .hi - two .zero .lo; one = two .one .hi - two .one .lo }
 
 -- the places of the k-th term in the node of a level
 abbrev pub termSpan : List ℕ → Layout → Terms → ℕ → ℕ → ℕ → Span
@@ -75,7 +75,7 @@ abbrev pub passing : Span → Span → Span
 passing here half = cond (leb (here .hi) (here .lo)) (record { start = half .start; lo = here .lo; hi = here .hi; end = half .end }) half
 
 abbrev pub passingBoth : Span → Halves → Halves
-passingBoth here two = record { low = passing here (two .low); high = passing here (two .high) }
+passingBoth here two = record { zero = passing here (two .zero); one = passing here (two .one) }
 
 -- a pair of the path in the halves of its node
 abbrev pub passedIn : List ℕ → Ranked → List ℕ → ℕ → Halves

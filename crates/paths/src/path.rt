@@ -18,10 +18,10 @@ ghost use Rattle.wavelet.specs.Spans.{Ordered, rankedOf};
 ghost use Rattle.archive.specs.Layout.{Opened};
 ghost use Rattle.paths.specs.Paths.{Asked, frameOf, pairIn, halvesIn, putHalves, sidesOf, termSpan, Whole, Held};
 
-// How many entries a term has in each half of a node.
+// How many entries a term has in the zero half and in the one half of a node.
 pub struct Sides {
-    pub low: usize,
-    pub high: usize,
+    pub zero: usize,
+    pub one: usize,
 }
 
 // The frame of a node, as a number of pairs.
@@ -50,7 +50,7 @@ pub fn put_root(archive: &[u8], l: Layout, q: Terms, path: &mut [u32])
     }
 }
 
-// The range of one term, pair `from` of the node's frame, in both halves: pair `to` of the low one's frame and the same of the high one's.
+// The range of one term, pair `from` of the node's frame, in both halves: pair `to` of the zero half's frame and the same of the one half's.
 pub fn part_term(
     bytes: &[u8],
     t: Levels,
@@ -69,13 +69,13 @@ pub fn part_term(
     let lo = path[2 * from] as usize;
     let hi = path[2 * from + 1] as usize;
     let two = halve_range(bytes, t, level, node, lo, hi);
-    let low = two.low;
-    let high = two.high;
-    put_pair(path, to, low.lo, low.hi);
-    put_pair(path, to + 9, high.lo, high.hi);
+    let zero = two.zero;
+    let one = two.one;
+    put_pair(path, to, zero.lo, zero.hi);
+    put_pair(path, to + 9, one.lo, one.hi);
     Sides {
-        low: low.hi - low.lo,
-        high: high.hi - high.lo,
+        zero: zero.hi - zero.lo,
+        one: one.hi - one.lo,
     }
 }
 
@@ -86,10 +86,10 @@ pub fn least(x: usize, y: usize) -> usize
 }
 
 // Whether a term is left, and all before it have entries in one half at least.
-fn goes_on(k: usize, size: usize, low: usize, high: usize) -> bool
-    ensures { λ r. ⌜ r ≡ (ltb k size && (ltb 0 low || ltb 0 high)) ⌝ }
+fn goes_on(k: usize, size: usize, zero: usize, one: usize) -> bool
+    ensures { λ r. ⌜ r ≡ (ltb k size && (ltb 0 zero || ltb 0 one)) ⌝ }
 {
-    k < size && (0 < low || 0 < high)
+    k < size && (0 < zero || 0 < one)
 }
 
 // From a node where every term has entries to its halves.
@@ -107,15 +107,15 @@ pub fn open_node(archive: &[u8], l: Layout, q: Terms, level: usize, number: usiz
     let node = rank_node(archive, l.levels, level, start, end);
     put_pair(path, below, node.start, node.middle);
     put_pair(path, below + 9, node.middle, node.end);
-    let mut low: usize = 1;
-    let mut high: usize = 1;
+    let mut zero: usize = 1;
+    let mut one: usize = 1;
     let mut k: usize = 0;
-    while goes_on(k, q.size as usize, low, high) {
+    while goes_on(k, q.size as usize, zero, one) {
         let from = frame + 1 + k;
         let to = below + 1 + k;
         let sides = part_term(archive, l.levels, level, node, from, to, path);
-        low = least(low, sides.low);
-        high = least(high, sides.high);
+        zero = least(zero, sides.zero);
+        one = least(one, sides.one);
         k += 1;
     }
 }

@@ -13,7 +13,7 @@ use lib.Dec.{ltb, eqb}
 use borrow.Author.Tests.{eq-eqb, ne-eqb, lt-ltb}
 use Rattle.bits.specs.Sequences.{tally, rank}
 use Rattle.bits.proofs.Tally.{tally-le-length}
-use Rattle.model.specs.Lists.{part}
+use Rattle.model.specs.Lists.{part, Within}
 use Rattle.model.specs.Rows.{row}
 use Rattle.model.specs.Walk.{key, pos}
 use Rattle.model.proofs.Lists.{within-at, length-part, tally-within, within-part}
@@ -63,11 +63,11 @@ bit-mul-le w x =
 
 -- ---- the node that holds v
 
-module _ (h : ℕ) (xs : List ℕ) (a b v : ℕ) (lv : v < 2 ^ h) (j : ℕ) (l : j < h) where
+module _ (h : ℕ) (xs : List ℕ) (w : Within (2 ^ h) xs) (a b v : ℕ) (an : a ≤ length xs) (bn : b ≤ length xs) (lv : v < 2 ^ h) (j : ℕ) (l : j < h) where
   -- the halves of the node that holds v are those of its next bit
   toward-halves : halvesOf (row h j xs) (spanOf h xs a b j (key h j v))
-      ≡ record { low = spanOf h xs a b (suc j) (2 * key h j v); high = spanOf h xs a b (suc j) (2 * key h j v + 1) }
-  toward-halves = span-halves h xs a b j (key h j v) l (key-lt h j v (le-of-lt l) lv)
+      ≡ record { zero = spanOf h xs a b (suc j) (2 * key h j v); one = spanOf h xs a b (suc j) (2 * key h j v + 1) }
+  toward-halves = span-halves h xs a b w an bn j (key h j v) l (key-lt h j v (le-of-lt l) lv)
 
   toward : halfOf (halvesOf (row h j xs) (spanOf h xs a b j (key h j v))) (key h (suc j) v % 2) ≡ spanOf h xs a b (suc j) (key h (suc j) v)
   toward =
@@ -128,17 +128,17 @@ module _ (bytes : List ℕ) (t : Levels) (a b v : ℕ) (ab : a ≤ b) (bl : b �
         → Toward bytes t a b v (j + 1) (halfOf (halvesOf (levelOf bytes t j) s) bit)
     toward-next lv l o bit e =
         rw add-one
-        (record { deep = l; reached = (λ i. halfOf (halvesOf (row h j xs) (o .reached i)) (e i)) ∙ toward h xs a b v lv j l })
+        (record { deep = l; reached = (λ i. halfOf (halvesOf (row h j xs) (o .reached i)) (e i)) ∙ toward h xs (within-entriesIn bytes t) a b v (le-trans ab inside) inside lv j l })
 
     pub below-le : {below : ℕ} → Below bytes t a b v j s below → below ≤ b - a
     below-le o = omega (arith, o .counted, tally-le-length (λ x. ltb (key h j x) (key h j v)) (part a b xs), length-part a b xs inside)
 
     pub below-next : {below : ℕ} → v < 2 ^ h → j < h → Below bytes t a b v j s below
         → Below bytes t a b v (j + 1) (halfOf (halvesOf (levelOf bytes t j) s) (v / 2 ^ (h - 1 - j) % 2))
-        (below + v / 2 ^ (h - 1 - j) % 2 * (halvesOf (levelOf bytes t j) s .low .hi - halvesOf (levelOf bytes t j) s .low .lo))
+        (below + v / 2 ^ (h - 1 - j) % 2 * (halvesOf (levelOf bytes t j) s .zero .hi - halvesOf (levelOf bytes t j) s .zero .lo))
     below-next lv l o = record {
       toward = toward-next lv l (o .toward) (v / 2 ^ (h - 1 - j) % 2) e;
-      counted = rw add-one ((λ i. o .counted i + e i * low i) ∙ go (ℕ-discrete (key h (suc j) v % 2) 1));
+      counted = rw add-one ((λ i. o .counted i + e i * zeros i) ∙ go (ℕ-discrete (key h (suc j) v % 2) 1));
     }
       where
         p : List ℕ
@@ -147,10 +147,10 @@ module _ (bytes : List ℕ) (t : Levels) (a b v : ℕ) (ab : a ≤ b) (bl : b �
         e : v / 2 ^ (h - 1 - j) % 2 ≡ key h (suc j) v % 2
         e = next-bit h j v l
 
-        low : halvesOf (row h j xs) s .low .hi - halvesOf (row h j xs) s .low .lo ≡ tally (λ x. eqb (key h (suc j) x) (2 * key h j v)) p
-        low =
-            ap (λ (s : Span). halvesOf (row h j xs) s .low .hi - halvesOf (row h j xs) s .low .lo) (o .toward .reached)
-            ∙ ap (λ (two : Halves). two .low .hi - two .low .lo) (toward-halves h xs a b v lv j l)
+        zeros : halvesOf (row h j xs) s .zero .hi - halvesOf (row h j xs) s .zero .lo ≡ tally (λ x. eqb (key h (suc j) x) (2 * key h j v)) p
+        zeros =
+            ap (λ (s : Span). halvesOf (row h j xs) s .zero .hi - halvesOf (row h j xs) s .zero .lo) (o .toward .reached)
+            ∙ ap (λ (two : Halves). two .zero .hi - two .zero .lo) (toward-halves h xs (within-entriesIn bytes t) a b v (le-trans ab inside) inside lv j l)
             ∙ span-count h xs a b (suc j) (2 * key h j v) ab
 
         go : Dec (key h (suc j) v % 2 ≡ 1)

@@ -1,6 +1,6 @@
 -- Laws of the levels.
 pub mod Stored
+pub mod Steps
 pub mod Spans
-pub mod RankedNodes
 pub mod Descents
 pub mod Ranges

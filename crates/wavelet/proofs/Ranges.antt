@@ -11,7 +11,7 @@ use lib.Pow.{pow-mono}
 use borrow.Author.Tests.{lt-ltb, le-ltb, leb-true, leb-false}
 use mir.Val.{boolByte}
 use Rattle.model.specs.Lists.{part}
-use Rattle.model.specs.Walk.{quantileFrom}
+use Rattle.model.specs.Walk.{zerosIn, quantileFrom}
 use Rattle.model.proofs.Wavelet.Rows.{rows-of}
 use Rattle.model.proofs.Wavelet.Quantile.{quantile-walk}
 use Rattle.wavelet.specs.declared.Levels.{Levels}
@@ -21,7 +21,7 @@ use Rattle.wavelet.specs.Levels.{entriesIn, levelOf}
 use Rattle.wavelet.specs.Spans.{Ordered, halvesOf, halfOf}
 use Rattle.wavelet.specs.Ranges.{counted, quantileIn, leafOf}
 use Rattle.wavelet.proofs.Stored.{length-entriesIn, within-entriesIn}
-use Rattle.wavelet.proofs.Spans.{low-zeros}
+use Rattle.wavelet.proofs.Steps.{level-of, byOnes, halves-by-ones, zero-count}
 
 -- ---- numbers of nodes
 
@@ -47,9 +47,9 @@ byte-mul-le x r = go (leb x r) refl
     go true e = let l = leb-true x r e in (omega arith, omega arith)
     go false e = (omega arith, omega arith)
 
-pub ordered-half : (n : ℕ) (two : Halves) → Ordered n (two .low) → Ordered n (two .high) → (b : Bool) → Ordered n (halfOf two (boolByte b))
-ordered-half n two low high true = high
-ordered-half n two low high false = low
+pub ordered-half : (n : ℕ) (two : Halves) → Ordered n (two .zero) → Ordered n (two .one) → (b : Bool) → Ordered n (halfOf two (boolByte b))
+ordered-half n two zeros ones true = ones
+ordered-half n two zeros ones false = zeros
 
 -- ---- the walk
 
@@ -64,15 +64,20 @@ module _ (bytes : List ℕ) (t : Levels) (j q : ℕ) (s : Span) (r : ℕ) (l : j
   bits = levelOf bytes t j
 
   abbrev zeros : ℕ
-  zeros = halvesOf bits s .low .hi - halvesOf bits s .low .lo
+  zeros = halvesOf bits s .zero .hi - halvesOf bits s .zero .lo
 
-  by-zeros : cond (ltb r zeros) (leafOf bytes t (suc j) (2 * q) (halvesOf bits s .low) r) (leafOf bytes t (suc j) (2 * q + 1) (halvesOf bits s .high) (r - zeros))
+  by-zeros : cond (ltb r zeros) (leafOf bytes t (suc j) (2 * q) (halvesOf bits s .zero) r) (leafOf bytes t (suc j) (2 * q + 1) (halvesOf bits s .one) (r - zeros))
       ≡ leafOf bytes t j q s r
   by-zeros =
       let e : suc (t .height - suc j) ≡ t .height - j = omega arith in
-      (λ i. cond (ltb r (low-zeros bits (t .entries) s o i)) (leafOf bytes t (suc j) (2 * q) (halvesOf bits s .low) r)
-      (leafOf bytes t (suc j) (2 * q + 1) (halvesOf bits s .high) (r - low-zeros bits (t .entries) s o i)))
+      (λ i. cond (ltb r (count i)) (leafOf bytes t (suc j) (2 * q) (two i .zero) r) (leafOf bytes t (suc j) (2 * q + 1) (two i .one) (r - count i)))
       ∙ ap (λ (m : ℕ). quantileFrom counted (levelOf bytes t) m j q (s .start) (s .lo) (s .hi) (s .end) r) e
+    where
+      count : zeros ≡ zerosIn bits (s .lo) (s .hi)
+      count = zero-count bits (t .entries) (level-of bytes t j l) s o
+
+      two : halvesOf bits s ≡ byOnes bits s
+      two = halves-by-ones bits (t .entries) (level-of bytes t j l) s o
 
   -- down by one row
   pub leaf-next : leafOf bytes t (j + 1) (2 * q + boolByte (leb zeros r)) (halfOf (halvesOf bits s) (boolByte (leb zeros r))) (r - boolByte (leb zeros r) * zeros)
@@ -81,14 +86,14 @@ module _ (bytes : List ℕ) (t : Levels) (j q : ℕ) (s : Span) (r : ℕ) (l : j
     where
       go : (b : Bool) → leb zeros r ≡ b
           → leafOf bytes t (suc j) (2 * q + boolByte b) (halfOf (halvesOf bits s) (boolByte b)) (r - boolByte b * zeros)
-          ≡ cond (ltb r zeros) (leafOf bytes t (suc j) (2 * q) (halvesOf bits s .low) r) (leafOf bytes t (suc j) (2 * q + 1) (halvesOf bits s .high) (r - zeros))
+          ≡ cond (ltb r zeros) (leafOf bytes t (suc j) (2 * q) (halvesOf bits s .zero) r) (leafOf bytes t (suc j) (2 * q + 1) (halvesOf bits s .one) (r - zeros))
       go true e =
           let one : 1 * zeros ≡ zeros = omega arith in
-          rw (le-ltb r zeros (leb-true zeros r e)) (ap (λ (n : ℕ). leafOf bytes t (suc j) (2 * q + 1) (halvesOf bits s .high) (r - n)) one)
+          rw (le-ltb r zeros (leb-true zeros r e)) (ap (λ (n : ℕ). leafOf bytes t (suc j) (2 * q + 1) (halvesOf bits s .one) (r - n)) one)
       go false e =
           let even : 2 * q + 0 ≡ 2 * q = omega arith in
           let none : r - 0 * zeros ≡ r = omega arith in
-          rw (lt-ltb r zeros (leb-false zeros r e)) (λ i. leafOf bytes t (suc j) (even i) (halvesOf bits s .low) (none i))
+          rw (lt-ltb r zeros (leb-false zeros r e)) (λ i. leafOf bytes t (suc j) (even i) (halvesOf bits s .zero) (none i))
 
 -- from the root
 pub leaf-root : (bytes : List ℕ) (t : Levels) (a b r : ℕ) → a ≤ b → b ≤ t .entries → r < b - a

@@ -8,12 +8,10 @@ use lib.ListN.{length, drop, length-drop}
 use lib.Seq.{length-take-le}
 use Rattle.bits.specs.Bits.{bitsOf, rowBytes, sampleCount}
 use Rattle.bits.specs.Rows.{Sampled}
-use Rattle.bits.proofs.Bits.{length-bitsOf, getD-bitsOf, bitAt-lt}
 use Rattle.model.specs.Lists.{Within}
 use Rattle.model.specs.Rows.{decode}
-use Rattle.model.proofs.Lists.{within-of}
 use Rattle.model.proofs.Wavelet.Rows.{RowsOf}
-use Rattle.model.proofs.Wavelet.Decode.{decoded}
+use Rattle.model.proofs.Wavelet.Decode.{decoded-bits}
 use Rattle.wavelet.specs.declared.Levels.{Levels}
 use Rattle.wavelet.specs.Levels.{samplesIn, rowIn, entriesIn, levelOf, Stored}
 use Rattle.model.proofs.Sums.{chunk-end}
@@ -63,14 +61,9 @@ module _ (bytes : List ℕ) (t : Levels) (s : Stored bytes t) (j : ℕ) (l : j <
     right = s .right j l;
   }
 
-within-bitsOf : (n : ℕ) (row : List ℕ) → Within 2 (bitsOf n row)
-within-bitsOf n row = within-of 2 (bitsOf n row) (λ i l. rw (getD-bitsOf n row i (rw (length-bitsOf n row) at l)) (bitAt-lt row i))
-
 module _ (bytes : List ℕ) (t : Levels) where
   entries-decoded : RowsOf (t .height) (t .entries) (decode (t .height) (t .entries) (λ j. bitsOf (t .entries) (rowIn bytes t j))) (λ j. bitsOf (t .entries) (rowIn bytes t j))
-  entries-decoded =
-      decoded (t .height) (t .entries) (λ j. bitsOf (t .entries) (rowIn bytes t j)) (λ j l. length-bitsOf (t .entries) (rowIn bytes t j))
-      (λ j l. within-bitsOf (t .entries) (rowIn bytes t j))
+  entries-decoded = decoded-bits (t .height) (t .entries) (rowIn bytes t)
 
   pub length-entriesIn : length (entriesIn bytes t) ≡ t .entries
   unfolding entriesIn

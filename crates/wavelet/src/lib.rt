@@ -1,23 +1,23 @@
 // Levels of rows as a wavelet tree. Counts and places of bits come from bit_rows' contracts alone.
 mod descent;
+mod halving;
 mod level;
-mod node;
 mod range;
-mod split;
 
 pub use descent::access;
 pub use descent::rank;
+pub use halving::half;
+pub use halving::halve;
+pub use halving::halve_known;
+pub use halving::halve_range;
+pub use halving::rank_node;
 pub use level::ones;
 pub use level::ones_between;
 pub use level::ones_from;
 pub use level::row_at;
 pub use level::samples_at;
-pub use node::half;
-pub use node::halve;
 pub use range::count_below;
 pub use range::quantile;
-pub use split::halve_range;
-pub use split::rank_node;
 
 // Where the levels of a tree lie in a byte slice: how many entries, how many rows, and the offsets of the first samples and of the first row.
 pub struct Levels {
@@ -35,13 +35,25 @@ pub struct Span {
     pub end: usize,
 }
 
-// The halves of a node: entries whose next bit is 0, and entries whose next bit is 1.
-pub struct Halves {
-    pub low: Span,
-    pub high: Span,
+// A place of a node, mapped to its two halves: how many zeros and how many ones of the node are before it.
+pub struct Mapped {
+    pub zeros: usize,
+    pub ones: usize,
 }
 
-// A node's bounds in its level, the ones before it, and where its high half starts.
+// The halves of a node: the zero half, of the entries whose next bit is 0, and the one half, of those whose next bit is 1.
+pub struct Halves {
+    pub zero: Span,
+    pub one: Span,
+}
+
+// The halves of a node, and the ones of its level before its end.
+pub struct Known {
+    pub two: Halves,
+    pub after: usize,
+}
+
+// A node's bounds in its level, the ones before it, and where its halves meet.
 pub struct Ranked {
     pub start: usize,
     pub end: usize,

@@ -2,8 +2,8 @@
 use crate::Counted;
 use crate::Levels;
 use crate::Span;
-use crate::node::half;
-use crate::node::halve;
+use crate::halving::half;
+use crate::halving::halve;
 ghost use mathlib.Core.Path.{_≡_};
 ghost use Prim.Native.Nat.{_-_, _^_, _≤_, _<_};
 ghost use lib.Dec.{ltb};
@@ -13,7 +13,7 @@ ghost use Rattle.wavelet.specs.Levels.{Stored, entriesIn};
 ghost use Rattle.wavelet.specs.Spans.{span, Ordered};
 ghost use Rattle.wavelet.specs.Ranges.{leafOf, quantileIn};
 
-// How many entries of the range are below v: down by the bits of v, the low half at each 1.
+// How many entries of the range are below v: down by the bits of v, and at each 1 those of the zero half.
 pub fn count_below(bytes: &[u8], t: Levels, a: usize, b: usize, v: usize) -> usize
     requires { ⌜ Stored (now bytes) t ⌝ }
     requires { ⌜ (a ≤ b) × (b ≤ t .entries) ⌝ }
@@ -32,16 +32,17 @@ pub fn count_below(bytes: &[u8], t: Levels, a: usize, b: usize, v: usize) -> usi
     let mut j = 0;
     while j < t.height {
         let two = halve(bytes, t, j, s);
-        let low = two.low;
+        let zero = two.zero;
         let bit = (v >> (t.height - 1 - j)) % 2;
-        below += bit * (low.hi - low.lo);
+        below += bit * (zero.hi - zero.lo);
         s = half(two, bit);
         j += 1;
     }
     below
 }
 
-// The leaf of rank r in the range lo to hi of the node q of level j, which spans start to end: rows that remain fall at each call.
+// The leaf of rank r in the range lo to hi of the node q of level j, which spans start to end. The zero half is tried first: it has the leaf
+// where r is below its count, and else the one half has, past that count. Rows that remain fall at each call.
 // The places pass as numbers: a struct would be copied on the way.
 fn leaf_of(
     bytes: &[u8],
@@ -65,8 +66,8 @@ fn leaf_of(
         };
     }
     let two = halve(bytes, t, j, Span { start, lo, hi, end });
-    let low = two.low;
-    let zeros = low.hi - low.lo;
+    let zero = two.zero;
+    let zeros = zero.hi - zero.lo;
     let bit = (zeros <= r) as usize;
     let s = half(two, bit);
     leaf_of(

@@ -2,8 +2,7 @@
 use crate::level::select_one;
 use crate::level::select_zero;
 use wavelet::Levels;
-use wavelet::ones;
-use wavelet::ones_from;
+use wavelet::rank_node;
 ghost use mathlib.Core.Path.{_≡_};
 ghost use mathlib.Core.Bool.{cond};
 ghost use Prim.Native.Nat.{_+_, _-_, _^_, _≤_, _<_};
@@ -67,16 +66,15 @@ fn offset_of(
     if j == t.height {
         return at_leaf(k, end - start);
     }
-    let before = ones(bytes, t, j, start);
-    let middle = end - (ones_from(bytes, t, j, start, before, end) - before);
+    let node = rank_node(bytes, t, j, start, end);
     let bit = (d >> (t.height - 1 - j)) % 2;
-    let from = pick(bit, middle, start);
-    let to = pick(bit, end, middle);
+    let from = pick(bit, node.middle, start);
+    let to = pick(bit, end, node.middle);
     let below = offset_of(bytes, t, d, j + 1, from, to, k);
     if below == to - from {
         return end - start;
     }
-    up(bytes, t, j, start, end, before, bit, below)
+    up(bytes, t, j, start, end, node.before, bit, below)
 }
 
 // The place of the i-th entry d, i from 1; the end where there are fewer.

@@ -36,9 +36,9 @@ pub record HalfIs (bytes : List ℕ) (l : Layout) (q : Terms) (n : Node) (r : Ha
 
 -- both halves of the node of a level
 pub record HalvesAre (bytes : List ℕ) (l : Layout) (q : Terms) (level number : ℕ) (r : Two) : Type 0 where
-  pub low : HalfIs bytes l q (node (l .levels .height - 1 - level) (2 * number)) (r .low)
-  pub high : HalfIs bytes l q (node (l .levels .height - 1 - level) (2 * number + 1)) (r .high)
+  pub zero : HalfIs bytes l q (node (l .levels .height - 1 - level) (2 * number)) (r .zero)
+  pub one : HalfIs bytes l q (node (l .levels .height - 1 - level) (2 * number + 1)) (r .one)
 
--- the low half of the node that a record stands for
+-- the zero half of the node that a record stands for
 abbrev pub below : ℕ → Record → paths.Node
 below h r = record { level = r .second % 16 + 1; number = 2 * (r .second / 16 / 2 ^ (h - r .second % 16)) }

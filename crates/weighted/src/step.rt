@@ -23,9 +23,10 @@ pub struct Half {
     pub lives: bool,
 }
 
+// The zero half and the one half of a node.
 pub struct Two {
-    pub low: Half,
-    pub high: Half,
+    pub zero: Half,
+    pub one: Half,
 }
 
 // A half, by its frame. The archive is there for the promise alone.
@@ -57,7 +58,7 @@ pub fn half_of(
     }
 }
 
-// The halves of the node of a level with the given start. The path leads from the node `at` to its low half.
+// The halves of the node of a level with the given start. The path leads from the node `at` to its zero half.
 fn halves(
     archive: &[u8],
     l: Layout,
@@ -82,13 +83,14 @@ fn halves(
     };
     go_to(archive, l, q, at, to, path);
     let width = l.levels.height - deeper;
-    let low = half_of(archive, l, q, weights, deeper, 2 * number, start, path);
+    let zero = half_of(archive, l, q, weights, deeper, 2 * number, start, path);
     let next = start + (1 << width);
-    let high = half_of(archive, l, q, weights, deeper, 2 * number + 1, next, path);
-    Two { low, high }
+    let one = half_of(archive, l, q, weights, deeper, 2 * number + 1, next, path);
+    Two { zero, one }
 }
 
-// Opens the first of the waiting nodes, r, which is no leaf: its halves wait, unless they have no entry. Answers how many nodes wait then.
+// Opens the first of the waiting nodes, r, which is no leaf: its zero half is tried, then its one half. A half waits unless it has no entry.
+// Answers how many nodes wait then.
 fn open(
     archive: &[u8],
     l: Layout,
@@ -112,15 +114,15 @@ fn open(
     let depth = (r.second % 16) as usize;
     let number = start >> (l.levels.height - depth);
     let two = halves(archive, l, q, weights, at, depth, number, start, path);
-    let low = two.low;
-    let high = two.high;
-    let first = low.waits;
-    let second = high.waits;
-    if !low.lives {
+    let zero = two.zero;
+    let one = two.one;
+    let first = zero.waits;
+    let second = one.waits;
+    if !zero.lives {
         frontier::replace_top(work, waiting, second);
         return waiting;
     }
-    if !high.lives {
+    if !one.lives {
         frontier::replace_top(work, waiting, first);
         return waiting;
     }

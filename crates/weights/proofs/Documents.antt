@@ -2,62 +2,55 @@
 use Prim.Native.Nat.{ℕ, zero, suc, _+_, _-_, _*_, _^_, _≤_, _<_}
 use native.Mathlib.Numerals.{add-one}
 use native.Mathlib.Omega.{arith}
-use native.Mathlib.Nat.{pow-suc, le-refl, zero-mul, mul-one}
+use native.Mathlib.Nat.{pow-suc, le-refl, le-trans, zero-mul, mul-one}
 use mathlib.Core.Path.{_≡_, sym, ap, ap₂, _∙_, subst}
 use mathlib.Core.Logic.{_⊎_, inl, inr}
 use mathlib.Core.List.{List}
 use mathlib.Core.Bool.{Bool, true, false}
+use lib.ListN.{length}
 use lib.Dec.{ltb}
 use mir.Val.{boolByte}
 use borrow.Author.Tests.{ltb-true, ltb-false}
 use Rattle.bits.specs.Sequences.{bit, tally, upFrom, occurrences, rank}
 use Rattle.bits.proofs.Tests.{look}
 use Rattle.bits.proofs.Tally.{tally-append, upFrom-append}
-use Rattle.model.specs.Lists.{part}
+use Rattle.model.specs.Lists.{part, Within}
 use Rattle.model.specs.TopK.{node, countIn}
 use Rattle.model.specs.Rows.{row}
 use Rattle.model.specs.Weighted.{documentsIn}
 use Rattle.model.proofs.Greedy.Counts.{count-leaf}
-use Rattle.model.proofs.Wavelet.Counts.{ones-mono, ones-step}
+use Rattle.model.proofs.Wavelet.Counts.{ones-step}
 use Rattle.wavelet.specs.declared.Levels.{Levels}
 use Rattle.wavelet.specs.declared.Span.{Span}
 use Rattle.wavelet.specs.declared.Halves.{Halves}
 use Rattle.wavelet.specs.Levels.{entriesIn, levelOf}
 use Rattle.wavelet.specs.Spans.{Ordered, halvesOf, span, spanOf}
 use Rattle.wavelet.proofs.Stored.{length-entriesIn, within-entriesIn}
-use Rattle.wavelet.proofs.Spans.{ordered-low, ordered-high, low-zeros, span-root, span-halves, span-count}
+use Rattle.wavelet.proofs.Steps.{Level, level-of, ordered-zero, ordered-one, zero-count, one-count}
+use Rattle.wavelet.proofs.Spans.{span-root, span-halves, span-count}
 use Rattle.weights.specs.Documents.{distinctFrom, ofTwo}
 use Rattle.weights.proofs.LastRow.{byte-some}
 
 -- ---- of any rows
 
--- the high half, as the code has it: from where the low half ends
+-- the one half, as the code has it: from where the zero half ends
 abbrev pub beside : Halves → Span
-beside two = span (two .low .end) (two .high .lo) (two .high .hi) (two .high .end)
-
--- the range's entries in the high half are its ones
-high-ones : (bits : List ℕ) (n : ℕ) (s : Span) → Ordered n s → halvesOf bits s .high .hi - halvesOf bits s .high .lo ≡ rank 1 bits (s .hi) - rank 1 bits (s .lo)
-high-ones bits n s o =
-    go (halvesOf bits s .high .start) (rank 1 bits (s .start)) (rank 1 bits (s .lo)) (rank 1 bits (s .hi)) (ones-mono bits (s .start) (s .lo) (o .from))
-    (ones-mono bits (s .lo) (s .hi) (o .range))
-  where
-    go : (m c l h : ℕ) → c ≤ l → l ≤ h → m + (h - c) - (m + (l - c)) ≡ h - l
-    go m c l h x y = omega arith
+beside two = span (two .zero .end) (two .one .lo) (two .one .hi) (two .one .end)
 
 -- every entry of the range is in one of the halves
-halves-count : (bits : List ℕ) (n : ℕ) (s : Span) → Ordered n s
-    → (halvesOf bits s .low .hi - halvesOf bits s .low .lo) + (halvesOf bits s .high .hi - halvesOf bits s .high .lo) ≡ s .hi - s .lo
-halves-count bits n s o =
-    go (halvesOf bits s .low .hi - halvesOf bits s .low .lo) (halvesOf bits s .high .hi - halvesOf bits s .high .lo) (rank 1 bits (s .hi) - rank 1 bits (s .lo))
-    (s .hi - s .lo) (low-zeros bits n s o) (high-ones bits n s o) (ones-step bits (s .lo) (s .hi) (o .range))
+halves-count : (bits : List ℕ) (n : ℕ) → Level n bits → (s : Span) → Ordered n s
+    → (halvesOf bits s .zero .hi - halvesOf bits s .zero .lo) + (halvesOf bits s .one .hi - halvesOf bits s .one .lo) ≡ s .hi - s .lo
+halves-count bits n v s o =
+    go (halvesOf bits s .zero .hi - halvesOf bits s .zero .lo) (halvesOf bits s .one .hi - halvesOf bits s .one .lo) (rank 1 bits (s .hi) - rank 1 bits (s .lo))
+    (s .hi - s .lo) (zero-count bits n v s o) (one-count bits n v s o) (ones-step bits (s .lo) (s .hi) (o .range))
   where
     go : (x y r c : ℕ) → x ≡ c - r → y ≡ r → r ≤ c → x + y ≡ c
     go x y r c p q l = omega arith
 
 -- both halves are in order, the second from where the first ends
-pub ordered-two : (bits : List ℕ) (n : ℕ) (s : Span) → Ordered n s → (two : Halves) → two ≡ halvesOf bits s → Ordered n (two .low) × Ordered n (beside two)
-ordered-two bits n s o two e =
-    subst (λ (w : Halves). Ordered n (w .low) × Ordered n (beside w)) (sym e) (ordered-low bits n s o, ordered-high bits n s o)
+pub ordered-two : (bits : List ℕ) (n : ℕ) → Level n bits → (s : Span) → Ordered n s → (two : Halves) → two ≡ halvesOf bits s → Ordered n (two .zero) × Ordered n (beside two)
+ordered-two bits n v s o two e =
+    subst (λ (w : Halves). Ordered n (w .zero) × Ordered n (beside w)) (sym e) (ordered-zero bits n v s o, ordered-one bits n v s o)
 
 bit-some : (c : ℕ) → (bit (ltb 0 c) ≤ c) × (0 < c → 0 < bit (ltb 0 c))
 bit-some c = go (look (ltb 0 c))
@@ -66,26 +59,33 @@ bit-some c = go (look (ltb 0 c))
     go (inl t) = let l = ltb-true 0 c t in (rw t (omega arith), λ p. rw t (omega arith))
     go (inr f) = let l = ltb-false 0 c f in (rw f (omega arith), λ p. absurd (omega arith))
 
-module _ (rows : ℕ → List ℕ) (e : ℕ) where
-  pub distinct-le : (n j : ℕ) (s : Span) → Ordered e s → distinctFrom rows n j s ≤ s .hi - s .lo
-  distinct-le zero j s o = bit-some (s .hi - s .lo) .0
-  distinct-le (suc n) j s o =
+module _ (rows : ℕ → List ℕ) (e h : ℕ) (levels : (i : ℕ) → i < h → Level e (rows i)) where
+  -- n more rows, the next of them row j
+  pub distinct-le : (n j : ℕ) → j + n ≤ h → (s : Span) → Ordered e s → distinctFrom rows n j s ≤ s .hi - s .lo
+  distinct-le zero j m s o = bit-some (s .hi - s .lo) .0
+  distinct-le (suc n) j m s o =
+      let v = levels j (omega arith) in
       omega (
         arith,
-        halves-count (rows j) e s o,
-        distinct-le n (suc j) (halvesOf (rows j) s .low) (ordered-low (rows j) e s o),
-        distinct-le n (suc j) (halvesOf (rows j) s .high) (ordered-high (rows j) e s o),
+        halves-count (rows j) e v s o,
+        distinct-le n (suc j) (omega arith) (halvesOf (rows j) s .zero) (ordered-zero (rows j) e v s o),
+        distinct-le n (suc j) (omega arith) (halvesOf (rows j) s .one) (ordered-one (rows j) e v s o),
       )
 
-  pub distinct-some : (n j : ℕ) (s : Span) → Ordered e s → 0 < s .hi - s .lo → 0 < distinctFrom rows n j s
-  distinct-some zero j s o p = bit-some (s .hi - s .lo) .1 p
-  distinct-some (suc n) j s o p = go (look (ltb 0 (low .hi - low .lo))) (distinct-some n (suc j) low (ordered-low (rows j) e s o)) (distinct-some n (suc j) high (ordered-high (rows j) e s o))
+  pub distinct-some : (n j : ℕ) → j + n ≤ h → (s : Span) → Ordered e s → 0 < s .hi - s .lo → 0 < distinctFrom rows n j s
+  distinct-some zero j m s o p = bit-some (s .hi - s .lo) .1 p
+  distinct-some (suc n) j m s o p =
+      go (look (ltb 0 (low .hi - low .lo))) (distinct-some n (suc j) (omega arith) low (ordered-zero (rows j) e v s o))
+      (distinct-some n (suc j) (omega arith) high (ordered-one (rows j) e v s o))
     where
+      v : Level e (rows j)
+      v = levels j (omega arith)
+
       low : Span
-      low = halvesOf (rows j) s .low
+      low = halvesOf (rows j) s .zero
 
       high : Span
-      high = halvesOf (rows j) s .high
+      high = halvesOf (rows j) s .one
 
       go : (ltb 0 (low .hi - low .lo) ≡ true) ⊎ (ltb 0 (low .hi - low .lo) ≡ false)
           → (0 < low .hi - low .lo → 0 < distinctFrom rows n (suc j) low) → (0 < high .hi - high .lo → 0 < distinctFrom rows n (suc j) high)
@@ -93,44 +93,45 @@ module _ (rows : ℕ → List ℕ) (e : ℕ) where
       go (inl t) a b = let x = a (ltb-true 0 (low .hi - low .lo) t) in omega arith
       go (inr f) a b =
           let z = ltb-false 0 (low .hi - low .lo) f in
-          let x = b (omega (arith, halves-count (rows j) e s o)) in
+          let x = b (omega (arith, halves-count (rows j) e v s o)) in
           omega arith
 
   -- a range of one entry has one document, an empty one none
-  pub distinct-one : (n j : ℕ) (s : Span) → Ordered e s → s .hi - s .lo < 2 → s .hi - s .lo ≡ distinctFrom rows n j s
-  distinct-one n j s o l = go (look (ltb 0 (s .hi - s .lo)))
+  pub distinct-one : (n j : ℕ) → j + n ≤ h → (s : Span) → Ordered e s → s .hi - s .lo < 2 → s .hi - s .lo ≡ distinctFrom rows n j s
+  distinct-one n j m s o l = go (look (ltb 0 (s .hi - s .lo)))
     where
       go : (ltb 0 (s .hi - s .lo) ≡ true) ⊎ (ltb 0 (s .hi - s .lo) ≡ false) → s .hi - s .lo ≡ distinctFrom rows n j s
-      go (inl t) = omega (arith, distinct-le n j s o, distinct-some n j s o (ltb-true 0 (s .hi - s .lo) t))
-      go (inr f) = omega (arith, distinct-le n j s o, ltb-false 0 (s .hi - s .lo) f)
+      go (inl t) = omega (arith, distinct-le n j m s o, distinct-some n j m s o (ltb-true 0 (s .hi - s .lo) t))
+      go (inr f) = omega (arith, distinct-le n j m s o, ltb-false 0 (s .hi - s .lo) f)
 
 -- ---- as the code goes about it
 
-module _ (rows : ℕ → List ℕ) (e h j : ℕ) (s : Span) (o : Ordered e s) where
-  pub documents-few : s .hi - s .lo < 2 → (s .hi - s .lo ≡ distinctFrom rows (h - j) j s) × (s .hi - s .lo ≤ s .hi - s .lo)
-  documents-few l = (distinct-one rows e (h - j) j s o l, omega arith)
+module _ (rows : ℕ → List ℕ) (e h : ℕ) (levels : (i : ℕ) → i < h → Level e (rows i)) (j : ℕ) (s : Span) (o : Ordered e s) where
+  pub documents-few : j < h → s .hi - s .lo < 2 → (s .hi - s .lo ≡ distinctFrom rows (h - j) j s) × (s .hi - s .lo ≤ s .hi - s .lo)
+  documents-few m l = (distinct-one rows e h levels (h - j) j (omega arith) s o l, omega arith)
 
   pub documents-last : j + 1 ≡ h → (x : ℕ) → (x ≡ ofTwo (rows j) (s .lo) (s .hi)) × (x ≤ s .hi - s .lo)
       → (x ≡ distinctFrom rows (h - j) j s) × (x ≤ s .hi - s .lo)
   documents-last l x a =
-      let d : h - j ≡ suc zero = omega arith in (
+      let d : h - j ≡ suc zero = omega arith in
+      let v = levels j (omega arith) in (
         a .0
-            ∙ ap₂ (λ (m n : ℕ). bit (ltb 0 m) + bit (ltb 0 n)) (sym (low-zeros (rows j) e s o)) (sym (high-ones (rows j) e s o))
+            ∙ ap₂ (λ (m n : ℕ). bit (ltb 0 m) + bit (ltb 0 n)) (sym (zero-count (rows j) e v s o)) (sym (one-count (rows j) e v s o))
             ∙ ap (λ (n : ℕ). distinctFrom rows n j s) (sym d),
         a .1,
       )
 
   pub documents-halves : j < h → (two : Halves) → two ≡ halvesOf (rows j) s → (x : ℕ)
-      → (x ≡ distinctFrom rows (h - (j + 1)) (j + 1) (two .low) + distinctFrom rows (h - (j + 1)) (j + 1) (beside two))
-      × (x ≤ (two .low .hi - two .low .lo) + (two .high .hi - two .high .lo))
+      → (x ≡ distinctFrom rows (h - (j + 1)) (j + 1) (two .zero) + distinctFrom rows (h - (j + 1)) (j + 1) (beside two))
+      × (x ≤ (two .zero .hi - two .zero .lo) + (two .one .hi - two .one .lo))
       → (x ≡ distinctFrom rows (h - j) j s) × (x ≤ s .hi - s .lo)
   documents-halves l two t x a =
       let d : h - j ≡ suc (h - (j + 1)) = omega arith in
-      let c : (two .low .hi - two .low .lo) + (two .high .hi - two .high .lo) ≡ s .hi - s .lo =
-      subst (λ (w : Halves). (w .low .hi - w .low .lo) + (w .high .hi - w .high .lo) ≡ s .hi - s .lo) (sym t) (halves-count (rows j) e s o) in (
+      let c : (two .zero .hi - two .zero .lo) + (two .one .hi - two .one .lo) ≡ s .hi - s .lo =
+      subst (λ (w : Halves). (w .zero .hi - w .zero .lo) + (w .one .hi - w .one .lo) ≡ s .hi - s .lo) (sym t) (halves-count (rows j) e (levels j l) s o) in (
         a .0
-            ∙ ap (λ (i : ℕ). distinctFrom rows (h - (j + 1)) i (two .low) + distinctFrom rows (h - (j + 1)) i (beside two)) (add-one j)
-            ∙ ap (λ (w : Halves). distinctFrom rows (h - (j + 1)) (suc j) (w .low) + distinctFrom rows (h - (j + 1)) (suc j) (beside w)) t
+            ∙ ap (λ (i : ℕ). distinctFrom rows (h - (j + 1)) i (two .zero) + distinctFrom rows (h - (j + 1)) i (beside two)) (add-one j)
+            ∙ ap (λ (w : Halves). distinctFrom rows (h - (j + 1)) (suc j) (w .zero) + distinctFrom rows (h - (j + 1)) (suc j) (beside w)) t
             ∙ ap (λ (n : ℕ). distinctFrom rows n j s) (sym d),
         omega (arith, a .1),
       )
@@ -141,7 +142,7 @@ both f g = (ap₂ (λ (m n : ℕ). m + n) (f .0) (g .0), omega (arith, f .1, g .
 
 -- ---- of a list of entries
 
-module _ (h : ℕ) (xs : List ℕ) (a b : ℕ) (order : a ≤ b) where
+module _ (h : ℕ) (xs : List ℕ) (w : Within (2 ^ h) xs) (a b : ℕ) (order : a ≤ b) (inside : b ≤ length xs) where
   abbrev found : ℕ → Bool
   found d = ltb 0 (occurrences d (part a b xs))
 
@@ -154,12 +155,12 @@ module _ (h : ℕ) (xs : List ℕ) (a b : ℕ) (order : a ≤ b) where
       let one : tally found (upFrom q 1) ≡ bit (found q) = omega arith in
       ap (λ (k : ℕ). bit (ltb 0 k)) c ∙ sym one ∙ ap (λ (k : ℕ). tally found (upFrom k 1)) (sym (mul-one q))
   distinct-under (suc n) j q e l =
-      let two = span-halves h xs a b j q (omega arith) l in
+      let two = span-halves h xs a b w (le-trans order inside) inside j q (omega arith) l in
       let width : 2 ^ suc n ≡ 2 ^ n + 2 ^ n = simp (pow-suc 2) (omega arith) in
       let wide : 2 ^ suc j ≡ 2 ^ j + 2 ^ j = simp (pow-suc 2) (omega arith) in
       let first : q * 2 ^ suc n ≡ 2 * q * 2 ^ n = simp (pow-suc 2) (omega arith) in
       let next : 2 * q * 2 ^ n + 2 ^ n ≡ (2 * q + 1) * 2 ^ n = omega arith in
-      ap₂ (λ (x y : Span). distinctFrom (λ i. row h i xs) n (suc j) x + distinctFrom (λ i. row h i xs) n (suc j) y) (ap (λ (t : Halves). t .low) two) (ap (λ (t : Halves). t .high) two)
+      ap₂ (λ (x y : Span). distinctFrom (λ i. row h i xs) n (suc j) x + distinctFrom (λ i. row h i xs) n (suc j) y) (ap (λ (t : Halves). t .zero) two) (ap (λ (t : Halves). t .one) two)
       ∙ ap₂ (λ (x y : ℕ). x + y) (distinct-under n (suc j) (2 * q) (omega arith) (omega arith)) (distinct-under n (suc j) (2 * q + 1) (omega arith) (omega arith))
       ∙ ap (λ (k : ℕ). tally found (upFrom (2 * q * 2 ^ n) (2 ^ n)) + tally found (upFrom k (2 ^ n))) (sym next)
       ∙ sym (tally-append found (upFrom (2 * q * 2 ^ n) (2 ^ n)) (upFrom (2 * q * 2 ^ n + 2 ^ n) (2 ^ n)))
@@ -177,7 +178,7 @@ module _ (bytes : List ℕ) (t : Levels) (a b : ℕ) (order : a ≤ b) (fits : b
       span-root h xs a b (within-entriesIn bytes t) (omega arith) (omega arith) ∙ ap (λ (e : ℕ). span 0 a b e) n in
       let z : h - 0 ≡ h = omega arith in
       ap₂ (λ (k : ℕ) (x : Span). distinctFrom (levelOf bytes t) k 0 x) z (sym s)
-      ∙ distinct-under h xs a b order h 0 0 (omega arith) (omega arith)
+      ∙ distinct-under h xs (within-entriesIn bytes t) a b order (omega arith) h 0 0 (omega arith) (omega arith)
       ∙ ap (λ (k : ℕ). tally (λ d. ltb 0 (occurrences d (part a b xs))) (upFrom k (2 ^ h))) (zero-mul (2 ^ h))
 
   -- without levels
@@ -193,4 +194,4 @@ module _ (bytes : List ℕ) (t : Levels) (a b : ℕ) (order : a ≤ b) (fits : b
   distinct-whole x e =
       let n : ℕ = t .entries in
       let o : Ordered n (span n n n n) = record { from = le-refl n; range = le-refl n; to = le-refl n; inside = le-refl n } in
-      omega (arith, distinct-le (levelOf bytes t) n (t .height - 0) 0 (span n n n n) o, distinct-root)
+      omega (arith, distinct-le (levelOf bytes t) n (t .height) (level-of bytes t) (t .height - 0) 0 (omega arith) (span n n n n) o, distinct-root)

@@ -10,7 +10,7 @@ use Rattle.wavelet.specs.Spans.{halvesOf}
 -- the leaves with an entry of the range, under a node of level j that is n levels above them
 abbrev pub distinctFrom : (ℕ → List ℕ) → ℕ → ℕ → Span → ℕ
 distinctFrom rows zero j s = bit (ltb 0 (s .hi - s .lo))
-distinctFrom rows (suc n) j s = distinctFrom rows n (suc j) (halvesOf (rows j) s .low) + distinctFrom rows n (suc j) (halvesOf (rows j) s .high)
+distinctFrom rows (suc n) j s = distinctFrom rows n (suc j) (halvesOf (rows j) s .zero) + distinctFrom rows n (suc j) (halvesOf (rows j) s .one)
 
 -- in the last row: one for the zeros of a range, one for its ones
 abbrev pub ofTwo : List ℕ → ℕ → ℕ → ℕ

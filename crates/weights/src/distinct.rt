@@ -1,8 +1,8 @@
 // How many different documents a range has.
-use crate::known::halve_known;
 use crate::last::distinct_last;
 use wavelet::Levels;
 use wavelet::Span;
+use wavelet::halve_known;
 use wavelet::ones;
 ghost use mathlib.Core.Path.{_≡_};
 ghost use Prim.Native.Nat.{_+_, _-_, _^_, _≤_, _<_};
@@ -37,19 +37,19 @@ fn distinct_node(
 {
     let known = halve_known(bytes, t, j, Span { start, lo, hi, end }, before);
     let two = known.two;
-    let low = two.low;
-    let high = two.high;
+    let zero = two.zero;
+    let one = two.one;
     let documents = distinct_two(
         bytes,
         t,
         j + 1,
-        low.start,
-        low.lo,
-        low.hi,
-        low.end,
-        high.lo,
-        high.hi,
-        high.end,
+        zero.start,
+        zero.lo,
+        zero.hi,
+        zero.end,
+        one.lo,
+        one.hi,
+        one.end,
     );
     let after = known.after;
     Walked { documents, after }

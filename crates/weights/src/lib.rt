@@ -1,6 +1,5 @@
 // What a term weighs: by how many different documents it has. Document 02, M-100.
 mod distinct;
-mod known;
 mod last;
 mod weight;
 

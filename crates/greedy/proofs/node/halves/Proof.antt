@@ -1,4 +1,4 @@
--- `halves`: by the halves of the node's places; the high one starts half the node's numbers later.
+-- `halves`: by the halves of the node's places; the one half starts half the node's numbers later.
 use borrow.Author.Needs.{needs}
 use Prim.Native.Nat.{_+_, _-_, _/_, _%_}
 use native.Mathlib.Omega.{arith}
@@ -70,8 +70,8 @@ returns c =
     let shift = shl-height (s .args .t .height - 1 - depth) (omega arith) .0 in
     let e : c .before .before .halve .result ≡ halvesOf bits (spanIn (s .args .r)) =
     c .before .before .halve .ensures .0 ∙ ap (halvesOf bits) (c .before .before .before .span .ensures) in (
-      c .before .pack .ensures ∙ ap (λ (two : Halves). packed start (depth + 1) (two .low)) e,
-      c .pack2 .ensures ∙ (λ i. packed (start + shift i) (depth + 1) (e i .high)),
+      c .before .pack .ensures ∙ ap (λ (two : Halves). packed start (depth + 1) (two .zero)) e,
+      c .pack2 .ensures ∙ (λ i. packed (start + shift i) (depth + 1) (e i .one)),
     )
 
 pub halves-spec : {M : Type 1} → statement M

@@ -34,7 +34,7 @@ returns c =
     let s = c .before .before .before .before .before .before .before .before .before .before .before in
     let a = s .args in
     opens-high (a .bytes .now) (a .s) (s .pre .0) (a .work .now) (a .waiting) (a .r) (s .pre .1 .0) (s .pre .1 .1 .0) (s .pre .1 .1 .1)
-    (two .result .low) (two .result .high) (two .ensures .0) (two .ensures .1) (omega arith) _ (c .before .before .replace-top .ensures)
+    (two .result .zero) (two .result .one) (two .ensures .0) (two .ensures .1) (omega arith) _ (c .before .before .replace-top .ensures)
 
 replace-top-requires-2 : tie.Need-replace-top-requires-2
 replace-top-requires-2 c κs =
@@ -51,7 +51,7 @@ returns-2 c =
     let s = c .before .before .before .before .before .before .before .before .before .before .before .before .before in
     let a = s .args in
     opens-low (a .bytes .now) (a .s) (s .pre .0) (a .work .now) (a .waiting) (a .r) (s .pre .1 .0) (s .pre .1 .1 .0) (s .pre .1 .1 .1)
-    (two .result .low) (two .result .high) (two .ensures .0) (two .ensures .1) (omega arith) (omega arith) _ (c .before .before .replace-top2 .ensures)
+    (two .result .zero) (two .result .one) (two .ensures .0) (two .ensures .1) (omega arith) (omega arith) _ (c .before .before .replace-top2 .ensures)
 
 open-top-requires : tie.Need-open-top-requires
 open-top-requires c κs =
@@ -60,7 +60,7 @@ open-top-requires c κs =
     let a = s .args in (
       first-some (groundOf (a .bytes .now) (a .s)) (a .work .now) (a .waiting) (a .r) (s .pre .1 .0) (s .pre .1 .1 .0),
       opens-room (a .bytes .now) (a .s) (s .pre .0) (a .work .now) (a .waiting) (a .r) (s .pre .1 .0) (s .pre .1 .1 .0) (s .pre .1 .1 .1)
-          (two .result .low) (two .result .high) (two .ensures .0) (two .ensures .1) (omega arith) (omega arith),
+          (two .result .zero) (two .result .one) (two .ensures .0) (two .ensures .1) (omega arith) (omega arith),
       s .pre .1 .0 .heap,
     )
 
@@ -80,7 +80,7 @@ returns-3 c =
     let s = c .before .before .before .before .before .before .before .before .before .before .before .before .before in
     let a = s .args in
     opens-both (a .bytes .now) (a .s) (s .pre .0) (a .work .now) (a .waiting) (a .r) (s .pre .1 .0) (s .pre .1 .1 .0) (s .pre .1 .1 .1)
-    (two .result .low) (two .result .high) (two .ensures .0) (two .ensures .1) (omega arith) (omega arith) _ (c .before .before .open-top .ensures)
+    (two .result .zero) (two .result .one) (two .ensures .0) (two .ensures .1) (omega arith) (omega arith) _ (c .before .before .open-top .ensures)
 
 pub open-spec : {M : Type 1} → statement M
 open-spec =

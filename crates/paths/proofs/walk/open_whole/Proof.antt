@@ -104,7 +104,7 @@ loop-holds c =
     let frame = c .before .before .before .before .before .before .before .before .before .before .before .frame-of in
     let node = c .before .before .before .before .before .before .before .before .rank-node .result in
     let known = pass-known (g .archive .now) (g .l) (s .pre .0) (g .q) (s .pre .1 .0 .0) eight (g .level) (g .number) (g .path .now) (frame .result) (frame .ensures) whole node (c .before .before .before .before .before .before .before .before .rank-node .ensures) in
-    let two : Halves = record { low = record { start = 0; lo = node .start; hi = node .middle; end = 0 }; high = record { start = 0; lo = node .middle; hi = node .end; end = 0 } } in
+    let two : Halves = record { zero = record { start = 0; lo = node .start; hi = node .middle; end = 0 }; one = record { start = 0; lo = node .middle; hi = node .end; end = 0 } } in
     let e : c .before .before .put-pair2 .last .0 ≡ putHalves two (18 * (g .level + 1)) (g .path .now) =
     c .before .before .put-pair2 .ensures
     ∙ ap (λ (x : List ℕ). sets x (2 * (18 * (g .level + 1) + 9)) (node .middle ∷ node .end ∷ [])) (c .before .before .before .before .before .before .put-pair .ensures) in

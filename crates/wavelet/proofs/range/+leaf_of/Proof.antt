@@ -11,8 +11,8 @@ use borrow.Fn.PlainCycle.{Measures, is, falls, and}
 use Rattle.wavelet.proofs.range.leaf_of.Reads as leaf-of
 use Rattle.wavelet.proofs.range.leaf_of.Kinds as leaf-of-kinds
 use Rattle.wavelet.proofs.range.+leaf_of.Lts-leaf_of as leaf-of-lts
-use Rattle.wavelet.proofs.node.half.Reads as half-reads
-use Rattle.wavelet.proofs.node.halve.Reads as halve-reads
+use Rattle.wavelet.proofs.halving.half.Reads as half-reads
+use Rattle.wavelet.proofs.halving.halve.Reads as halve-reads
 use Rattle.wavelet.proofs.range.+leaf_of.{statement}
 use Rattle.wavelet.proofs.range.+leaf_of.Tie.{close}
 
@@ -70,27 +70,27 @@ leaf-of-add-leaf-of-2 : (t : ℕ) → leaf-of-lts.Need-add-leaf-of-2 (leaf-of-ca
 leaf-of-add-leaf-of-2 t c =
     let s = c .before .before .before .before .before .before .before in
     let g = s .args in
-    let low = c .before .before .before .halve .result .low in
-    omega (arith, node-few (g .q) (g .j) (g .t .height) (s .pre .1 .1 .1) (s .pre .1 .1 .0) (s .pre .1 .0 .low), byte-le (leb (low .hi - low .lo) (g .r)))
+    let zero = c .before .before .before .halve .result .zero in
+    omega (arith, node-few (g .q) (g .j) (g .t .height) (s .pre .1 .1 .1) (s .pre .1 .1 .0) (s .pre .1 .0 .low), byte-le (leb (zero .hi - zero .lo) (g .r)))
 
 leaf-of-mul-leaf-of-2 : (t : ℕ) → leaf-of-lts.Need-mul-leaf-of-2 (leaf-of-calls t) (leaf-of-at t) leaf-of.Post
 leaf-of-mul-leaf-of-2 t c =
     let g = c .before .before .before .before .before .before .before .args in
-    let low = c .before .before .before .halve .result .low in
-    omega (arith, byte-mul-le (low .hi - low .lo) (g .r))
+    let zero = c .before .before .before .halve .result .zero in
+    omega (arith, byte-mul-le (zero .hi - zero .lo) (g .r))
 
 leaf-of-sub-leaf-of : (t : ℕ) → leaf-of-lts.Need-sub-leaf-of (leaf-of-calls t) (leaf-of-at t) leaf-of.Post
 leaf-of-sub-leaf-of t c =
     let g = c .before .before .before .before .before .before .before .args in
-    let low = c .before .before .before .halve .result .low in
-    byte-mul-le (low .hi - low .lo) (g .r) .0
+    let zero = c .before .before .before .halve .result .zero in
+    byte-mul-le (zero .hi - zero .lo) (g .r) .0
 
 leaf-of-leaf-of-requires : (t : ℕ) → leaf-of-lts.Need-leaf-of-requires (leaf-of-calls t) (leaf-of-at t) leaf-of.Post
 leaf-of-leaf-of-requires t c κs =
     let s = c .before .before .before .before .before .before .before in
     let g = s .args in
     let two = c .before .before .before .halve .result in
-    let b : Bool = leb (two .low .hi - two .low .lo) (g .r) in (
+    let b : Bool = leb (two .zero .hi - two .zero .lo) (g .r) in (
       omega arith,
       (
         s .pre .1 .0,

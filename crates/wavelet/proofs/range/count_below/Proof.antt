@@ -53,17 +53,17 @@ mul-below : tie.Need-mul-below Inv-loop μ-loop
 mul-below c =
     let k = c .before .before .before .before .before .before in
     let g = k .before .before .before .before .args in
-    let low = c .before .before .before .halve .result .low in
-    omega (arith, bit-mul-le (g .v / 2 ^ (g .t .height - 1 - k .loop .j)) (low .hi - low .lo))
+    let zero = c .before .before .before .halve .result .zero in
+    omega (arith, bit-mul-le (g .v / 2 ^ (g .t .height - 1 - k .loop .j)) (zero .hi - zero .lo))
 
 add-below : tie.Need-add-below Inv-loop μ-loop
 add-below c =
     let k = c .before .before .before .before .before .before in
     let s = k .before .before .before .before in
     let g = s .args in
-    let low = c .before .before .before .halve .result .low in
+    let zero = c .before .before .before .halve .result .zero in
     let l = below-le (g .bytes .now) (g .t) (g .a) (g .b) (g .v) (s .pre .1 .0) (s .pre .1 .1) (k .loop .inv) in
-    omega (arith, bit-mul-le (g .v / 2 ^ (g .t .height - 1 - k .loop .j)) (low .hi - low .lo))
+    omega (arith, bit-mul-le (g .v / 2 ^ (g .t .height - 1 - k .loop .j)) (zero .hi - zero .lo))
 
 half-requires : tie.Need-half-requires Inv-loop μ-loop
 half-requires c κs = search needs

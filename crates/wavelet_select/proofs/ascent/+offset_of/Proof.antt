@@ -1,12 +1,14 @@
 use borrow.Author.Needs.{needs}
 use Prim.Native.Nat.{ℕ, _-_, _/_, _%_, _^_, _≤_, _<_}
 use native.Mathlib.Omega.{arith}
-use mathlib.Core.Path.{refl, _∙_}
+use mathlib.Core.Path.{_≡_, refl, ap, _∙_}
 use mathlib.Core.List.{List}
 use lib.Dec.{eqb}
+use Rattle.model.specs.Walk.{left}
 use Rattle.model.proofs.Wavelet.Counts.{left-le}
+use Rattle.wavelet.specs.declared.Ranked.{Ranked}
 use Rattle.wavelet.specs.Levels.{levelOf}
-use Rattle.wavelet.proofs.Spans.{left-is}
+use Rattle.wavelet.proofs.Steps.{level-of, rank-le, middle-by-ones}
 use Rattle.wavelet_select.proofs.Places.{picked, half-filled, offset-end, offset-none, offset-some}
 use borrow.Fn.Kinds.{In}
 use borrow.Fn.PlainCycle.{Measures, is, falls, and}
@@ -16,8 +18,7 @@ use Rattle.wavelet_select.proofs.ascent.+offset_of.Lts-offset_of as off
 use Rattle.wavelet_select.proofs.ascent.at_leaf.Reads as at-leaf-reads
 use Rattle.wavelet_select.proofs.ascent.pick.Reads as pick-reads
 use Rattle.wavelet_select.proofs.ascent.up.Reads as up-reads
-use Rattle.wavelet.proofs.ones.Reads as ones-reads
-use Rattle.wavelet.proofs.ones_from.Reads as ones-from-reads
+use Rattle.wavelet.proofs.rank_node.Reads as rank-node-reads
 use Rattle.wavelet_select.proofs.ascent.+offset_of.{statement}
 use Rattle.wavelet_select.proofs.ascent.+offset_of.Tie.{close}
 
@@ -36,10 +37,8 @@ abbrev offset-of-calls : ℕ → offset-of-lts.Claims
 offset-of-calls t = (
   at-leaf-reads.Asked,
   at-leaf-reads.Learnt,
-  ones-reads.Asked,
-  ones-reads.Learnt,
-  ones-from-reads.Asked,
-  ones-from-reads.Learnt,
+  rank-node-reads.Asked,
+  rank-node-reads.Learnt,
   pick-reads.Asked,
   pick-reads.Learnt,
   offset-of-below t,
@@ -60,17 +59,8 @@ offset-of-returns t c =
     let g = s .args in
     c .at-leaf .ensures ∙ offset-end (g .bytes .now) (g .t) (g .d) (g .j) (g .start) (g .end) (g .k) (c .before .if1 .taken)
 
-offset-of-ones-requires : (t : ℕ) → offset-of-lts.Need-ones-requires (offset-of-calls t) (offset-of-at t) offset-of.Post
-offset-of-ones-requires t c κs = search needs
-
-offset-of-ones-from-requires : (t : ℕ) → offset-of-lts.Need-ones-from-requires (offset-of-calls t) (offset-of-at t) offset-of.Post
-offset-of-ones-from-requires t c κs = search needs
-
-offset-of-sub-middle : (t : ℕ) → offset-of-lts.Need-sub-middle (offset-of-calls t) (offset-of-at t) offset-of.Post
-offset-of-sub-middle t c = search needs
-
-offset-of-sub-middle-2 : (t : ℕ) → offset-of-lts.Need-sub-middle-2 (offset-of-calls t) (offset-of-at t) offset-of.Post
-offset-of-sub-middle-2 t c = search needs
+offset-of-rank-node-requires : (t : ℕ) → offset-of-lts.Need-rank-node-requires (offset-of-calls t) (offset-of-at t) offset-of.Post
+offset-of-rank-node-requires t c κs = search needs
 
 offset-of-sub-bit : (t : ℕ) → offset-of-lts.Need-sub-bit (offset-of-calls t) (offset-of-at t) offset-of.Post
 offset-of-sub-bit t c = search needs
@@ -90,25 +80,35 @@ offset-of-pick-requires-2 t c κs = search needs
 offset-of-add-offset-of : (t : ℕ) → offset-of-lts.Need-add-offset-of (offset-of-calls t) (offset-of-at t) offset-of.Post
 offset-of-add-offset-of t c = search needs
 
+-- where the halves of the node meet
+offset-of-middle : (t : ℕ) (c : offset-of-lts.After-rank-node (offset-of-calls t) (offset-of-at t) offset-of.Post)
+    → c .rank-node .result .middle
+    ≡ left (levelOf (c .before .before .before .before .args .bytes .now) (c .before .before .before .before .args .t) (c .before .before .before .before .args .j)) (c .before .before .before .before .args .start) (c .before .before .before .before .args .end)
+offset-of-middle t c =
+    let s = c .before .before .before .before in
+    let g = s .args in
+    ap (λ (r : Ranked). r .middle) (c .rank-node .ensures)
+    ∙ middle-by-ones (levelOf (g .bytes .now) (g .t) (g .j)) (g .t .entries) (level-of (g .bytes .now) (g .t) (g .j) (omega arith)) (g .start) (g .end) (s .pre .1 .1 .1) (s .pre .1 .1 .2)
+
 -- the half lies in the node
 offset-of-inside : (t : ℕ) (c : offset-of-lts.After-pick2 (offset-of-calls t) (offset-of-at t) offset-of.Post)
-    → (c .before .before .before .before .before .before .before .before .args .start ≤ c .before .pick .result)
+    → (c .before .before .before .before .before .before .before .args .start ≤ c .before .pick .result)
     × (c .before .pick .result ≤ c .pick2 .result)
-    × (c .pick2 .result ≤ c .before .before .before .before .before .before .before .before .args .end)
+    × (c .pick2 .result ≤ c .before .before .before .before .before .before .before .args .end)
 offset-of-inside t c =
     let k = c .before .before .before in
-    let s = k .before .before .before .before .before in
+    let s = k .before .before .before .before in
     let g = s .args in
     let bits : List ℕ = levelOf (g .bytes .now) (g .t) (g .j) in
     let l = s .pre .1 .1 .1 in
-    let m = left-is bits (g .start) (g .end) (k .before .ones .result) (k .ones-from .result) l (k .before .ones .ensures .0) (k .ones-from .ensures .0) in
-    let mid : ℕ = g .end - (k .ones-from .result - k .before .ones .result) in
+    let mid : ℕ = k .rank-node .result .middle in
+    let m : mid ≡ left bits (g .start) (g .end) = offset-of-middle t k in
     rw (c .before .pick .ensures, c .pick2 .ensures)
     (picked (eqb (g .d / 2 ^ (g .t .height - 1 - g .j) % 2) 1) (g .start) mid (g .end) (omega arith) (omega (arith, left-le bits (g .start) (g .end) l)))
 
 offset-of-offset-of-requires : (t : ℕ) → offset-of-lts.Need-offset-of-requires (offset-of-calls t) (offset-of-at t) offset-of.Post
 offset-of-offset-of-requires t c κs =
-    let s = c .before .before .before .before .before .before .before .before in
+    let s = c .before .before .before .before .before .before .before in
     let p = offset-of-inside t c in
     (omega arith, (s .pre .1 .0, (omega arith, p .1, omega arith)))
 
@@ -126,11 +126,11 @@ offset-of-returns-2 : (t : ℕ) → offset-of-lts.Need-returns-2 (offset-of-call
 offset-of-returns-2 t c =
     let o = c .before in
     let k = o .before .before .before .before in
-    let s = k .before .before .before .before .before in
+    let s = k .before .before .before .before in
     let g = s .args in
     let l = s .pre .1 .1 .1 in
-    let m = left-is (levelOf (g .bytes .now) (g .t) (g .j)) (g .start) (g .end) (k .before .ones .result) (k .ones-from .result) l (k .before .ones .ensures .0) (k .ones-from .ensures .0) in
-    let mid : ℕ = g .end - (k .ones-from .result - k .before .ones .result) in
+    let mid : ℕ = k .rank-node .result .middle in
+    let m = offset-of-middle t k in
     let p = offset-of-inside t (o .before) in
     offset-none (g .bytes .now) (g .t) (g .d) (g .j) (g .start) (g .end) (g .k) (omega arith) l (g .d / 2 ^ (g .t .height - 1 - g .j) % 2) mid refl m
     (o .before .before .pick .result) (o .before .pick2 .result) (o .before .before .pick .ensures) (o .before .pick2 .ensures) (p .1) (omega arith) (o .offset-of .result) (o .offset-of .ensures) (c .if2 .taken)
@@ -139,26 +139,27 @@ offset-of-up-requires : (t : ℕ) → offset-of-lts.Need-up-requires (offset-of-
 offset-of-up-requires t c κs =
     let o = c .before in
     let k = o .before .before .before .before in
-    let s = k .before .before .before .before .before in
+    let s = k .before .before .before .before in
     let g = s .args in
     let l = s .pre .1 .1 .1 in
-    let m = left-is (levelOf (g .bytes .now) (g .t) (g .j)) (g .start) (g .end) (k .before .ones .result) (k .ones-from .result) l (k .before .ones .ensures .0) (k .ones-from .ensures .0) in
-    let mid : ℕ = g .end - (k .ones-from .result - k .before .ones .result) in
+    let mid : ℕ = k .rank-node .result .middle in
+    let m = offset-of-middle t k in
     let p = offset-of-inside t (o .before) in
     let f = offset-some (g .bytes .now) (g .t) (g .d) (g .j) (g .start) (g .end) (g .k) (omega arith) l (g .d / 2 ^ (g .t .height - 1 - g .j) % 2) mid refl m
     (o .before .before .pick .result) (o .before .pick2 .result) (o .before .before .pick .ensures) (o .before .pick2 .ensures) (p .1) (omega arith) (o .offset-of .result) (o .offset-of .ensures) (c .if2 .left) .0 in
     let q = half-filled (p .0) (p .2) (s .pre .1 .1 .2) f in
-    (s .pre .1 .0, ((omega arith, q .0, s .pre .1 .1 .2, q .1), (k .before .ones .ensures .0, k .before .ones .ensures .1)))
+    let before = ap (λ (r : Ranked). r .before) (k .rank-node .ensures) in
+    (s .pre .1 .0, ((omega arith, q .0, s .pre .1 .1 .2, q .1), (before, omega (arith, before, rank-le (levelOf (g .bytes .now) (g .t) (g .j)) (g .start)))))
 
 offset-of-returns-3 : (t : ℕ) → offset-of-lts.Need-returns-3 (offset-of-calls t) (offset-of-at t) offset-of.Post
 offset-of-returns-3 t c =
     let o = c .before .before in
     let k = o .before .before .before .before in
-    let s = k .before .before .before .before .before in
+    let s = k .before .before .before .before in
     let g = s .args in
     let l = s .pre .1 .1 .1 in
-    let m = left-is (levelOf (g .bytes .now) (g .t) (g .j)) (g .start) (g .end) (k .before .ones .result) (k .ones-from .result) l (k .before .ones .ensures .0) (k .ones-from .ensures .0) in
-    let mid : ℕ = g .end - (k .ones-from .result - k .before .ones .result) in
+    let mid : ℕ = k .rank-node .result .middle in
+    let m = offset-of-middle t k in
     let p = offset-of-inside t (o .before) in
     c .up .ensures
     ∙ offset-some (g .bytes .now) (g .t) (g .d) (g .j) (g .start) (g .end) (g .k) (omega arith) l (g .d / 2 ^ (g .t .height - 1 - g .j) % 2) mid refl m
@@ -171,10 +172,7 @@ pub +offset-of-spec : {M : Type 1} → statement M
     (offset-of-sub-at-leaf t)
     (offset-of-at-leaf-requires t)
     (offset-of-returns t)
-    (offset-of-ones-requires t)
-    (offset-of-ones-from-requires t)
-    (offset-of-sub-middle t)
-    (offset-of-sub-middle-2 t)
+    (offset-of-rank-node-requires t)
     (offset-of-sub-bit t)
     (offset-of-sub-bit-2 t)
     (offset-of-shr-bit t)

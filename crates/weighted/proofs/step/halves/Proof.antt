@@ -145,8 +145,8 @@ returns c =
     let less = p .0 in
     let e : g .l .levels .height - (g .level + 1) ≡ g .l .levels .height - 1 - g .level = omega arith in (
       record {
-        low = subst (λ (k : ℕ). HalfIs (g .archive .now) (g .l) (g .q) (node k (2 * g .number)) (c .before .before .half-of .result)) e (c .before .before .half-of .ensures);
-        high = subst (λ (k : ℕ). HalfIs (g .archive .now) (g .l) (g .q) (node k (2 * g .number + 1)) (c .half-of2 .result)) e (c .half-of2 .ensures);
+        zero = subst (λ (k : ℕ). HalfIs (g .archive .now) (g .l) (g .q) (node k (2 * g .number)) (c .before .before .half-of .result)) e (c .before .before .half-of .ensures);
+        one = subst (λ (k : ℕ). HalfIs (g .archive .now) (g .l) (g .q) (node k (2 * g .number + 1)) (c .half-of2 .result)) e (c .half-of2 .ensures);
       },
       record { room = room; inside = record { low = omega arith; few = st .low-fits }; held = w .ensures },
     )

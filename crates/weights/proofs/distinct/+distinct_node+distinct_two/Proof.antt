@@ -3,6 +3,7 @@ use Prim.Native.Nat.{ℕ, _+_, _-_, _*_, _<_}
 use native.Mathlib.Omega.{arith}
 use Rattle.wavelet.specs.Levels.{levelOf}
 use Rattle.wavelet.specs.Spans.{span}
+use Rattle.wavelet.proofs.Steps.{level-of}
 use Rattle.weights.proofs.Documents.{ordered-two, documents-few, documents-last, documents-halves, both}
 use borrow.Fn.Kinds.{In}
 use borrow.Fn.PlainCycle.{Measures, is, falls, and}
@@ -13,7 +14,7 @@ use Rattle.weights.proofs.distinct.distinct_two.Reads as distinct-two
 use Rattle.weights.proofs.distinct.distinct_two.Kinds as distinct-two-kinds
 use Rattle.weights.proofs.distinct.+distinct_node+distinct_two.Lts-distinct_two as distinct-two-lts
 use Rattle.wavelet.proofs.ones.Reads as ones-reads
-use Rattle.weights.proofs.known.halve_known.Reads as halve-known-reads
+use Rattle.wavelet.proofs.halve_known.Reads as halve-known-reads
 use Rattle.weights.proofs.last.distinct_last.Reads as distinct-last-reads
 use Rattle.weights.proofs.distinct.+distinct_node+distinct_two.{statement}
 use Rattle.weights.proofs.distinct.+distinct_node+distinct_two.Tie.{close}
@@ -66,7 +67,7 @@ distinct-node-distinct-two-requires t c κs =
     let s = c .before .before .before .before .before in
     let g = s .args in
     let k = c .before .before .before .halve-known in
-    let o = ordered-two (levelOf (g .bytes .now) (g .t) (g .j)) (g .t .entries) (span (g .start) (g .lo) (g .hi) (g .end)) (s .pre .1 .1 .1) (k .result .two) (k .ensures .0) in
+    let o = ordered-two (levelOf (g .bytes .now) (g .t) (g .j)) (g .t .entries) (level-of (g .bytes .now) (g .t) (g .j) (omega (arith, s .pre .1 .1 .0))) (span (g .start) (g .lo) (g .hi) (g .end)) (s .pre .1 .1 .1) (k .result .two) (k .ensures .0 .0) in
     (omega arith, (s .pre .1 .0, (s .pre .1 .1 .0, o .0, o .1)))
 
 distinct-node-returns : (t : ℕ) → distinct-node-lts.Need-returns (distinct-node-calls t) (distinct-node-at t) distinct-node.Post
@@ -74,9 +75,9 @@ distinct-node-returns t c =
     let s = c .before .before .before .before .before .before in
     let g = s .args in
     let k = c .before .before .before .before .halve-known in
-    let d = documents-halves (levelOf (g .bytes .now) (g .t)) (g .t .entries) (g .t .height) (g .j) (span (g .start) (g .lo) (g .hi) (g .end)) (s .pre .1 .1 .1)
-    (omega (arith, s .pre .1 .1 .0)) (k .result .two) (k .ensures .0) (c .distinct-two .result) (c .distinct-two .ensures) in
-    (d .0, d .1, k .ensures .1)
+    let d = documents-halves (levelOf (g .bytes .now) (g .t)) (g .t .entries) (g .t .height) (level-of (g .bytes .now) (g .t)) (g .j) (span (g .start) (g .lo) (g .hi) (g .end)) (s .pre .1 .1 .1)
+    (omega (arith, s .pre .1 .1 .0)) (k .result .two) (k .ensures .0 .0) (c .distinct-two .result) (c .distinct-two .ensures) in
+    (d .0, d .1, k .ensures .0 .1)
 
 distinct-two-add-if1 : (t : ℕ) → distinct-two-lts.Need-add-if1 (distinct-two-calls t) (distinct-two-at t) distinct-two.Post
 distinct-two-add-if1 t c = search needs
@@ -95,9 +96,9 @@ distinct-two-returns t c =
     let s = c .before .before .before .before .before in
     let g = s .args in
     let last = c .before .before .if1 .taken in
-    let low = documents-last (levelOf (g .bytes .now) (g .t)) (g .t .entries) (g .t .height) (g .j) (span (g .start) (g .lo) (g .hi) (g .middle)) (s .pre .1 .1 .1) last
+    let low = documents-last (levelOf (g .bytes .now) (g .t)) (g .t .entries) (g .t .height) (level-of (g .bytes .now) (g .t)) (g .j) (span (g .start) (g .lo) (g .hi) (g .middle)) (s .pre .1 .1 .1) last
     (c .before .distinct-last .result) (c .before .distinct-last .ensures) in
-    let high = documents-last (levelOf (g .bytes .now) (g .t)) (g .t .entries) (g .t .height) (g .j) (span (g .middle) (g .from) (g .to) (g .end)) (s .pre .1 .1 .2) last
+    let high = documents-last (levelOf (g .bytes .now) (g .t)) (g .t .entries) (g .t .height) (level-of (g .bytes .now) (g .t)) (g .j) (span (g .middle) (g .from) (g .to) (g .end)) (s .pre .1 .1 .2) last
     (c .distinct-last2 .result) (c .distinct-last2 .ensures) in
     both low high
 
@@ -114,8 +115,8 @@ distinct-two-returns-2 : (t : ℕ) → distinct-two-lts.Need-returns-2 (distinct
 distinct-two-returns-2 t c =
     let s = c .before .before .before .before .before in
     let g = s .args in
-    let low = documents-few (levelOf (g .bytes .now) (g .t)) (g .t .entries) (g .t .height) (g .j) (span (g .start) (g .lo) (g .hi) (g .middle)) (s .pre .1 .1 .1) (omega arith) in
-    let high = documents-few (levelOf (g .bytes .now) (g .t)) (g .t .entries) (g .t .height) (g .j) (span (g .middle) (g .from) (g .to) (g .end)) (s .pre .1 .1 .2) (omega arith) in
+    let low = documents-few (levelOf (g .bytes .now) (g .t)) (g .t .entries) (g .t .height) (level-of (g .bytes .now) (g .t)) (g .j) (span (g .start) (g .lo) (g .hi) (g .middle)) (s .pre .1 .1 .1) (s .pre .1 .1 .0) (omega arith) in
+    let high = documents-few (levelOf (g .bytes .now) (g .t)) (g .t .entries) (g .t .height) (level-of (g .bytes .now) (g .t)) (g .j) (span (g .middle) (g .from) (g .to) (g .end)) (s .pre .1 .1 .2) (s .pre .1 .1 .0) (omega arith) in
     both low high
 
 distinct-two-ones-requires : (t : ℕ) → distinct-two-lts.Need-ones-requires (distinct-two-calls t) (distinct-two-at t) distinct-two.Post
@@ -133,7 +134,7 @@ distinct-two-returns-3 : (t : ℕ) → distinct-two-lts.Need-returns-3 (distinct
 distinct-two-returns-3 t c =
     let s = c .before .before .before .before .before .before .before .before in
     let g = s .args in
-    let low = documents-few (levelOf (g .bytes .now) (g .t)) (g .t .entries) (g .t .height) (g .j) (span (g .start) (g .lo) (g .hi) (g .middle)) (s .pre .1 .1 .1) (omega arith) in
+    let low = documents-few (levelOf (g .bytes .now) (g .t)) (g .t .entries) (g .t .height) (level-of (g .bytes .now) (g .t)) (g .j) (span (g .start) (g .lo) (g .hi) (g .middle)) (s .pre .1 .1 .1) (s .pre .1 .1 .0) (omega arith) in
     let high = c .before .distinct-node .ensures in
     both low (high .0, high .1)
 
@@ -153,7 +154,7 @@ distinct-two-returns-4 t c =
     let s = c .before .before .before .before .before .before .before .before in
     let g = s .args in
     let low = c .before .before .distinct-node2 .ensures in
-    let high = documents-few (levelOf (g .bytes .now) (g .t)) (g .t .entries) (g .t .height) (g .j) (span (g .middle) (g .from) (g .to) (g .end)) (s .pre .1 .1 .2) (omega arith) in
+    let high = documents-few (levelOf (g .bytes .now) (g .t)) (g .t .entries) (g .t .height) (level-of (g .bytes .now) (g .t)) (g .j) (span (g .middle) (g .from) (g .to) (g .end)) (s .pre .1 .1 .2) (s .pre .1 .1 .0) (omega arith) in
     both (low .0, low .1) high
 
 distinct-two-distinct-node-requires-3 : (t : ℕ) → distinct-two-lts.Need-distinct-node-requires-3 (distinct-two-calls t) (distinct-two-at t) distinct-two.Post

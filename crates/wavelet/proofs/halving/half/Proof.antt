@@ -1,6 +1,6 @@
 use borrow.Author.Tests.{eq-eqb, ne-eqb}
-use Rattle.wavelet.proofs.node.half.Statement.{statement}
-use Rattle.wavelet.proofs.node.half.Tie as tie
+use Rattle.wavelet.proofs.halving.half.Statement.{statement}
+use Rattle.wavelet.proofs.halving.half.Tie as tie
 
 returns : tie.Need-returns
 returns c = rw (eq-eqb _ _ (c .if1 .taken))
