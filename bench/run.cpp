@@ -26,6 +26,9 @@ PEER(tight)
 PEER(plain)
 
 PEER(opened)
+#ifdef BEFORE
+PEER(before)
+#endif
 PEER(checked)
 
 namespace {
@@ -132,6 +135,9 @@ const size_t SCAN = 0, TIGHT = 1, PLAIN = 2;
 std::vector<Contender> contenders() {
   std::vector<Contender> all = {scan_contender(), Tree<tight_nopop>::contender("tight nopop"), Tree<plain_nopop>::contender("plain nopop"),
                                 Tree<opened>::contender("ours"), Tree<checked>::contender("ours checked"), Tree<tight>::contender("tight"), Tree<plain>::contender("plain")};
+#ifdef BEFORE
+  all.push_back(Tree<before>::contender("before"));
+#endif
 #ifdef SDSL
   Contender two[2];
   sdsl_plain(two);

@@ -3,6 +3,7 @@
 # SECONDS: for each cell, all contenders together (2). FILTER: only cells with this in "data operation range k", as "skewed greedy".
 # Prints our time and its ratio to each peer's, with the sizes, and draws the plots (without python3: the whole table alone).
 # CXX: the compiler, clang++ where it is there. VERIFY_ONLY=1: no timing.
+# BEFORE: the libmasuvelior.a of another commit, which then takes part as 'before'.
 set -e
 cd "$(dirname "$0")"
 root=$(cd .. && pwd)
@@ -29,6 +30,16 @@ peer plain_nopop 0
 peer tight 1 -mpopcnt
 peer plain 0 -mpopcnt
 
+# The library of another commit, its functions under other names.
+before=
+if [ -n "$BEFORE" ]; then
+  before=-DBEFORE
+  nm -g --defined-only "$BEFORE" | awk '$2 == "T" { print $3, "before_" $3 }' >build/before.names
+  objcopy --redefine-syms=build/before.names "$BEFORE" build/before.a
+  $CXX $flags -DOURS=before -DCHECKED=0 $(awk '{ print "-D" $1 "=" $2 }' build/before.names) -c ours.cpp -o build/before.o
+  objects="$objects build/before.o build/before.a"
+fi
+
 # sdsl, without and with the popcount instruction. The two share the names of templates: each becomes one object in which only its entry is seen.
 sdsl=
 library=$($CXX -print-file-name=libsdsl.a)
@@ -51,7 +62,7 @@ else
 fi
 
 $CXX $flags -c scan.cpp -o build/scan.o
-$CXX $flags $sdsl run.cpp build/scan.o $objects "$root/target/staticlib/libmasuvelior.a" -o build/run
+$CXX $flags $sdsl $before run.cpp build/scan.o $objects "$root/target/staticlib/libmasuvelior.a" -o build/run
 build/run verify
 [ -z "$VERIFY_ONLY" ] || exit 0
 build/run time "${1:-2}" build/results.csv build/openings.csv ${2:+"$2"} >build/results.md

@@ -5,7 +5,7 @@ import csv
 import os
 import sys
 
-PEERS = ["tight nopop", "plain nopop", "tight", "sdsl wt_int nopop", "sdsl wt_int v5 nopop", "scan"]
+PEERS = ["before", "tight nopop", "plain nopop", "tight", "sdsl wt_int nopop", "sdsl wt_int v5 nopop", "scan"]
 
 
 def spoken(ns):
