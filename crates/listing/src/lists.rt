@@ -66,6 +66,9 @@ fn list_node(
         at,
         answers,
     );
+    if one.lo == one.hi {
+        return middle;
+    }
     list_node(
         bytes,
         t,

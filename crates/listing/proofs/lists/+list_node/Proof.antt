@@ -8,7 +8,7 @@ use Rattle.wavelet.specs.Levels.{levelOf}
 use Rattle.wavelet.proofs.Ranges.{node-lt, node-few}
 use Rattle.answers.proofs.Stores.{written-none, written-pair, written-both}
 use Rattle.listing.proofs.Listed.{pairs-empty, pairs-leaf, pairs-halves, pairs-count}
-use Prim.Native.Nat.{ℕ, _-_, _<_}
+use Prim.Native.Nat.{ℕ, _+_, _-_, _*_, _<_}
 use borrow.Fn.Kinds.{In}
 use borrow.Fn.PlainCycle.{Measures, is, falls, and}
 use Rattle.listing.proofs.lists.list_node.Reads as list-node
@@ -94,42 +94,60 @@ list-node-list-node-requires t c κs =
     let s = c .before .before .before .before .before .before .before .before .before in
     let g = s .args in
     let n : Span = record { start = g .start; lo = g .lo; hi = g .hi; end = g .end } in
-    let w = c .before .before .before .halve in (
-      omega arith,
+    let w = c .before .before .before .halve in
+    let l : g .j < g .t .height = omega (arith, s .pre .1 .1 .0, c .before .before .before .before .if2 .left) in (
+      omega (arith, s .pre .0),
       (
         s .pre .1 .0,
         (
           omega arith,
           omega (arith, node-lt (g .q) (g .j) false (s .pre .1 .1 .1)),
           w .ensures .1,
-          omega (arith, s .pre .1 .1 .3, pairs-count (g .bytes .now) (g .t) (g .j) (g .q) n (w .result) (w .ensures .0) (omega arith)),
+          omega (arith, s .pre .1 .1 .3, pairs-count (g .bytes .now) (g .t) (g .j) (g .q) n (w .result) (w .ensures .0) l),
         ),
       ),
     )
 
+list-node-same-length-2 : (t : ℕ) → list-node-lts.Need-same-length-2 (list-node-calls t) (list-node-at t) list-node.Post
+list-node-same-length-2 t c = search needs
+
+list-node-returns-3 : (t : ℕ) → list-node-lts.Need-returns-3 (list-node-calls t) (list-node-at t) list-node.Post
+list-node-returns-3 t c =
+    let s = c .before .before .before .before .before .before .before .before .before .before .before .before .before .before in
+    let g = s .args in
+    let n : Span = record { start = g .start; lo = g .lo; hi = g .hi; end = g .end } in
+    let w = c .before .before .before .before .before .before .before .before .halve in
+    let l : g .j < g .t .height = omega (arith, s .pre .1 .1 .0, c .before .before .before .before .before .before .before .before .before .if2 .left) in
+    written-both (g .at) (g .answers .now)
+    (pairs-halves (g .bytes .now) (g .t) (g .j) (g .q) n (w .result) (w .ensures .0) l)
+    (c .before .before .before .before .list-node .ensures)
+    (written-none _ _ (pairs-empty (levelOf (g .bytes .now) (g .t)) (g .t .height - (g .j + 1)) (g .j + 1) (2 * g .q + 1) (w .result .one) (c .if3 .taken)))
+
 list-node-add-list-node-2 : (t : ℕ) → list-node-lts.Need-add-list-node-2 (list-node-calls t) (list-node-at t) list-node.Post
-list-node-add-list-node-2 t c = search needs
+list-node-add-list-node-2 t c =
+    let s = c .before .before .before .before .before .before .before .before .before .before .before .before .before .before in
+    omega (arith, s .pre .1 .1 .0, s .pre .1 .0 .low)
 
 list-node-mul-list-node-2 : (t : ℕ) → list-node-lts.Need-mul-list-node-2 (list-node-calls t) (list-node-at t) list-node.Post
 list-node-mul-list-node-2 t c =
-    let s = c .before .before .before .before .before .before .before .before .before .before .before .before in
+    let s = c .before .before .before .before .before .before .before .before .before .before .before .before .before .before in
     let g = s .args in
     omega (arith, node-few (g .q) (g .j) (g .t .height) (s .pre .1 .1 .1) (s .pre .1 .1 .0) (s .pre .1 .0 .low))
 
 list-node-add-list-node-3 : (t : ℕ) → list-node-lts.Need-add-list-node-3 (list-node-calls t) (list-node-at t) list-node.Post
 list-node-add-list-node-3 t c =
-    let s = c .before .before .before .before .before .before .before .before .before .before .before .before in
+    let s = c .before .before .before .before .before .before .before .before .before .before .before .before .before .before in
     let g = s .args in
     omega (arith, node-few (g .q) (g .j) (g .t .height) (s .pre .1 .1 .1) (s .pre .1 .1 .0) (s .pre .1 .0 .low))
 
 list-node-list-node-requires-2 : (t : ℕ) → list-node-lts.Need-list-node-requires-2 (list-node-calls t) (list-node-at t) list-node.Post
 list-node-list-node-requires-2 t c κs =
-    let s = c .before .before .before .before .before .before .before .before .before .before .before .before .before in
+    let s = c .before .before .before .before .before .before .before .before .before .before .before .before .before .before .before in
     let g = s .args in
     let n : Span = record { start = g .start; lo = g .lo; hi = g .hi; end = g .end } in
-    let w = c .before .before .before .before .before .before .before .halve in
-    let k = c .before .before .before .list-node in
-    let l : g .j < g .t .height = omega (arith, s .pre .1 .1 .0, c .before .before .before .before .before .before .before .before .if2 .left) in (
+    let w = c .before .before .before .before .before .before .before .before .before .halve in
+    let k = c .before .before .before .before .before .list-node in
+    let l : g .j < g .t .height = omega (arith, s .pre .1 .1 .0, c .before .before .before .before .before .before .before .before .before .before .if2 .left) in (
       omega (arith, s .pre .0),
       (
         s .pre .1 .0,
@@ -142,19 +160,19 @@ list-node-list-node-requires-2 t c κs =
       ),
     )
 
-list-node-same-length-2 : (t : ℕ) → list-node-lts.Need-same-length-2 (list-node-calls t) (list-node-at t) list-node.Post
-list-node-same-length-2 t c = search needs
+list-node-same-length-3 : (t : ℕ) → list-node-lts.Need-same-length-3 (list-node-calls t) (list-node-at t) list-node.Post
+list-node-same-length-3 t c = search needs
 
-list-node-returns-3 : (t : ℕ) → list-node-lts.Need-returns-3 (list-node-calls t) (list-node-at t) list-node.Post
-list-node-returns-3 t c =
-    let s = c .before .before .before .before .before .before .before .before .before .before .before .before .before .before .before .before in
+list-node-returns-4 : (t : ℕ) → list-node-lts.Need-returns-4 (list-node-calls t) (list-node-at t) list-node.Post
+list-node-returns-4 t c =
+    let s = c .before .before .before .before .before .before .before .before .before .before .before .before .before .before .before .before .before .before in
     let g = s .args in
     let n : Span = record { start = g .start; lo = g .lo; hi = g .hi; end = g .end } in
-    let w = c .before .before .before .before .before .before .before .before .before .before .halve in
-    let l : g .j < g .t .height = omega (arith, s .pre .1 .1 .0, c .before .before .before .before .before .before .before .before .before .before .before .if2 .left) in
+    let w = c .before .before .before .before .before .before .before .before .before .before .before .before .halve in
+    let l : g .j < g .t .height = omega (arith, s .pre .1 .1 .0, c .before .before .before .before .before .before .before .before .before .before .before .before .before .if2 .left) in
     written-both (g .at) (g .answers .now)
     (pairs-halves (g .bytes .now) (g .t) (g .j) (g .q) n (w .result) (w .ensures .0) l)
-    (c .before .before .before .before .before .before .list-node .ensures) (c .before .before .list-node2 .ensures)
+    (c .before .before .before .before .before .before .before .before .list-node .ensures) (c .before .before .list-node2 .ensures)
 
 pub +list-node-spec : {M : Type 1} → statement M
 +list-node-spec = close μ-list-node λ t. list-node-lts.spec (list-node-calls t)
@@ -170,9 +188,11 @@ pub +list-node-spec : {M : Type 1} → statement M
     (list-node-add-list-node t)
     (list-node-mul-list-node t)
     (list-node-list-node-requires t)
+    (list-node-same-length-2 t)
+    (list-node-returns-3 t)
     (list-node-add-list-node-2 t)
     (list-node-mul-list-node-2 t)
     (list-node-add-list-node-3 t)
     (list-node-list-node-requires-2 t)
-    (list-node-same-length-2 t)
-    (list-node-returns-3 t)
+    (list-node-same-length-3 t)
+    (list-node-returns-4 t)
