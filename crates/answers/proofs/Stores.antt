@@ -1,13 +1,14 @@
--- Pairs in a slice: laws of `flat` and of runs of stores.
-use Prim.Native.Nat.{ℕ, suc, _+_, _*_, _≤_}
+-- Pairs in a slice: laws of `flat`, and of pairs that are written one after another.
+use Prim.Native.Nat.{ℕ, _+_, _*_, _≤_}
 use native.Mathlib.Omega.{arith}
-use native.Mathlib.Nat.{zero-add, add-zero, suc-add, add-suc}
+use native.Mathlib.Nat.{zero-add}
 use mathlib.Core.Path.{_≡_, refl, sym, ap, _∙_}
 use mathlib.Core.List.{List, [], _∷_, _++_}
-use lib.ListN.{length, set, drop, length-append}
+use lib.ListN.{length, drop, length-append}
 use lib.Seq.{sets, sets-eq}
 use Rattle.model.specs.Lists.{overwrite}
 use Rattle.model.specs.Queries.{Pair, flat}
+use Rattle.model.proofs.Stores.{sets-append}
 use Rattle.answers.specs.Written.{Written}
 
 pub flat-append : (ps qs : List Pair) → flat (ps ++ qs) ≡ flat ps ++ flat qs
@@ -17,12 +18,6 @@ flat-append (p ∷ ps) qs = ap (λ (l : List ℕ). p .document ∷ p .count ∷ 
 pub length-flat : (ps : List Pair) → length (flat ps) ≡ 2 * length ps
 length-flat [] = refl
 length-flat (p ∷ ps) = omega (arith, length-flat ps)
-
--- one run of stores after another
-pub sets-append : (l : List ℕ) (i : ℕ) (vs ws : List ℕ) → sets l i (vs ++ ws) ≡ sets (sets l i vs) (i + length vs) ws
-sets-append l i [] ws = ap (λ (k : ℕ). sets l k ws) (sym (add-zero i))
-sets-append l i (v ∷ vs) ws =
-    sets-append (set l i v) (suc i) vs ws ∙ ap (λ (k : ℕ). sets (sets (set l i v) (suc i) vs) k ws) (suc-add i (length vs) ∙ sym (add-suc i (length vs)))
 
 -- ---- pairs written from pair number `at` on
 

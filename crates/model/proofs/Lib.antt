@@ -1,5 +1,7 @@
 -- Laws of the definitions.
 pub mod Lists
+pub mod Any
+pub mod Stores
 pub mod Sums
 pub mod Height
 pub mod Wavelet

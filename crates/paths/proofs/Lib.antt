@@ -1,5 +1,4 @@
 -- Laws of paths: their frames, the step from a node to its halves, and the way from node to node.
-pub mod Missing
 pub mod Asking
 pub mod Frames
 pub mod Openings

@@ -15,7 +15,7 @@ use Rattle.model.specs.Queries.{conjunction}
 use Rattle.answers.specs.Written.{Lists}
 use Rattle.paths.specs.declared.Terms.{Terms}
 use Rattle.paths.specs.Paths.{termsOf, Asked}
-use Rattle.paths.proofs.Missing.{all-known}
+use Rattle.model.proofs.Format.Valid.{within-any}
 use Rattle.distinct_terms.proofs.Keeping.{asked-distinct, different-distinct}
 use Rattle.conjunction.proofs.Walks.{found-le}
 use Rattle.conjunction.proofs.conjunctions.conjunction_opened.Statement.{statement}
@@ -62,7 +62,7 @@ asked c =
     let g = c .before .before .before .before .before .before .before .before .before .before .args in
     let e : any (leb (g .l .terms)) (take (g .q .size) (g .q .numbers)) ≡ false = sym (c .before .before .before .term-missing .ensures) ∙ c .before .before .if3 .left in
     let z = c .before .before .before .before .before .before .if1 .left in
-    record { some = omega arith; few = c .before .before .before .before .if2 .left; known = all-known (g .l .terms) (take (g .q .size) (g .q .numbers)) e }
+    record { some = omega arith; few = c .before .before .before .before .if2 .left; known = within-any (g .l .terms) (take (g .q .size) (g .q .numbers)) e }
 
 asked-once : (s : tie.Start) (r : Terms) → Asked (s .args .l .terms) (s .args .q) → termsOf r ≡ distinct (termsOf (s .args .q)) → r .size ≤ s .args .q .size
     → Asked (s .args .l .terms) r

@@ -8,7 +8,7 @@ use lib.Seq.{length-take-le, getD-take}
 use lib.Dec.{leb}
 use borrow.Author.Tests.{le-leb, lt-leb}
 use Rattle.model.specs.Lists.{any}
-use Rattle.paths.proofs.Missing.{any-next, any-found, any-end}
+use Rattle.model.proofs.Any.{any-next, any-found, any-end}
 use Rattle.paths.proofs.known.term_missing.Statement.{statement}
 use Rattle.paths.proofs.known.term_missing.Tie as tie
 

@@ -16,7 +16,7 @@ use Rattle.model.specs.TopK.{Ended, Found, foundInto}
 use Rattle.archive.proofs.Opened.{fitting}
 use Rattle.paths.specs.declared.Terms.{Terms}
 use Rattle.paths.specs.Paths.{termsOf, Asked}
-use Rattle.paths.proofs.Missing.{all-known}
+use Rattle.model.proofs.Format.Valid.{within-any}
 use Rattle.distinct_terms.proofs.Keeping.{asked-distinct, different-distinct}
 use Rattle.weighted.proofs.Answers.{found-answer}
 use Rattle.weighted.proofs.Refusals.{terms-none, terms-many, terms-missing, answers-short, work-short, accepted}
@@ -95,7 +95,7 @@ once : (c : tie.Else5) (r : Terms) → termsOf r ≡ distinct (termsOf (start c 
 once c r e l =
     let g = start c .args in
     let some = c .before .before .before .before .before .before .before .before .if1 .left in
-    let a : Asked (g .layout .terms) (g .q) = record { some = omega arith; few = c .before .before .before .before .before .before .if2 .left; known = all-known (g .layout .terms) (termsOf (g .q)) (known c) } in
+    let a : Asked (g .layout .terms) (g .q) = record { some = omega arith; few = c .before .before .before .before .before .before .if2 .left; known = within-any (g .layout .terms) (termsOf (g .q)) (known c) } in
     asked-distinct (g .layout .terms) (g .q) r (eight (start c)) a e l
 
 distinct-requires : tie.Need-distinct-requires

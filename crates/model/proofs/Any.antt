@@ -1,15 +1,12 @@
--- The loop that looks for a term that is none, and what it says of the terms.
+-- Loops that look for an element that passes a test: as long as none was found, the rest has one just where the whole has.
 use Prim.Native.Nat.{ℕ, suc, _+_, _≤_, _<_}
 use native.Mathlib.Numerals.{add-one}
-use mathlib.Core.Path.{_≡_, sym, ap, _∙_}
+use mathlib.Core.Path.{_≡_, refl, sym, ap, _∙_}
 use mathlib.Core.List.{List, [], _∷_}
-use mathlib.Core.Bool.{Bool, true, false, _||_}
+use mathlib.Core.Bool.{Bool, true, false, cond, _&&_, _||_}
 use lib.ListN.{length, getD, drop, drop-of-length-le}
 use lib.Seq.{drop-cons}
-use lib.Dec.{leb}
-use borrow.Author.Tests.{leb-false}
-use Rattle.bits.proofs.Tests.{or-neither}
-use Rattle.model.specs.Lists.{any, Within}
+use Rattle.model.specs.Lists.{keep, any}
 
 module _ (p : ℕ → Bool) (ts : List ℕ) (i : ℕ) (same : any p (drop i ts) ≡ any p ts) where
   any-step : (b : Bool) → i < length ts → p (getD ts i 0) ≡ b → (b || any p (drop (suc i) ts)) ≡ any p ts
@@ -24,9 +21,11 @@ module _ (p : ℕ → Bool) (ts : List ℕ) (i : ℕ) (same : any p (drop i ts) 
   pub any-end : length ts ≤ i → false ≡ any p ts
   any-end l = ap (any p) (sym (drop-of-length-le ts l)) ∙ same
 
--- where no term is missing
-pub all-known : (W : ℕ) (ts : List ℕ) → any (leb W) ts ≡ false → Within W ts
-all-known W [] e = tt
-all-known W (t ∷ ts) e =
-    let b = or-neither (leb W t) (any (leb W) ts) e in
-    (leb-false W t (b .0), all-known W ts (b .1))
+-- among the elements that pass another test
+pub any-keep : (p q : ℕ → Bool) (xs : List ℕ) → any p (keep q xs) ≡ any (λ x. q x && p x) xs
+any-keep p q [] = refl
+any-keep p q (x ∷ xs) = go (q x) (any-keep p q xs)
+  where
+    go : (b : Bool) → any p (keep q xs) ≡ any (λ y. q y && p y) xs → any p (cond b (x ∷ keep q xs) (keep q xs)) ≡ ((b && p x) || any (λ y. q y && p y) xs)
+    go true e = ap (λ (r : Bool). p x || r) e
+    go false e = e
