@@ -21,3 +21,4 @@ pub mod Papers
 pub mod Questions
 pub mod Halving
 pub mod Repeated
+pub mod Boolean

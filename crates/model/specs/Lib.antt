@@ -11,6 +11,9 @@ pub mod Papers
 pub mod TopK
 pub mod Search
 pub mod Weighted
+pub mod Grammar
+pub mod Reading
+pub mod Boolean
 pub mod Halving
 pub mod Probing
 pub mod Frontier
@@ -22,3 +25,4 @@ pub mod WeightedCases
 pub mod DistinctCases
 pub mod PlaceCases
 pub mod HalvingCases
+pub mod BooleanCases

@@ -92,7 +92,7 @@ pairAt out i = pair (getD out (2 * i) 0) (getD out (2 * i + 1) 0)
 abbrev pub pairsIn : List ℕ → ℕ → List Pair
 pairsIn out n = map (pairAt out) (below n)
 
--- how many pairs, and the final content of the answer slice
+-- how many pairs, or how many documents alone (M-104), and the final content of the answer slice
 pub record PairsResult : Type 0 where
   pub outcome : Outcome ℕ
   pub answers : List ℕ
