@@ -12,7 +12,7 @@ ghost use Rattle.wavelet.specs.Levels.{Stored, entriesIn, levelOf};
 ghost use Rattle.wavelet.specs.Spans.{Ordered, halvesOf, halfOf, spanAt};
 
 // From a place of level j to its place in the half that a bit leads to.
-fn step(bytes: &[u8], t: Levels, j: usize, p: Place, bit: usize) -> Place
+pub fn step(bytes: &[u8], t: Levels, j: usize, p: Place, bit: usize) -> Place
     requires { ⌜ Stored (now bytes) t ⌝ }
     requires { ⌜ (j < t .height) × Ordered (t .entries) (spanAt p) ⌝ }
     ensures { λ r. ⌜ spanAt r ≡ halfOf (halvesOf (levelOf (now (bytes .entry)) t j) (spanAt p)) bit ⌝ }

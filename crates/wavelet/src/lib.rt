@@ -6,11 +6,13 @@ mod range;
 
 pub use descent::access;
 pub use descent::rank;
+pub use descent::step;
 pub use halving::half;
 pub use halving::halve;
 pub use halving::halve_known;
 pub use halving::halve_range;
 pub use halving::rank_node;
+pub use level::bit;
 pub use level::ones;
 pub use level::ones_between;
 pub use level::ones_from;
