@@ -1,0 +1,3 @@
+-- What the contracts of matching cite.
+pub mod Sets
+pub mod Parsing
