@@ -1,0 +1,3 @@
+-- What the contracts of bitmaps cite.
+pub mod Words
+pub mod Bitmaps
