@@ -1,0 +1,8 @@
+-- Laws of boolean.
+pub mod Members
+pub mod Numbering
+pub mod Readable
+pub mod Matched
+pub mod Renaming
+pub mod Filling
+pub mod Answered

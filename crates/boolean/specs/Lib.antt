@@ -1,0 +1,3 @@
+-- What the contracts of boolean cite.
+pub mod Words
+pub mod Blocks
