@@ -8,6 +8,7 @@ use slices::at;
 use slices::count_at;
 use slices::plus;
 use slices::put;
+use trials::booleans;
 use trials::lists;
 use trials::numbers;
 use trials::places;
@@ -145,6 +146,23 @@ fn ask(
     }
 }
 
+// So many questions with and, or, not.
+fn ask_booleans(
+    times: u32,
+    archive: &[u8],
+    entries: &[u32],
+    lengths: &[u32],
+    l: Sizes,
+    seed: u32,
+    made: &mut [u32; 64],
+) {
+    let mut i = 0;
+    while i < times {
+        booleans::ask_drawn(archive, entries, lengths, l, draw(seed, i), made);
+        i += 1;
+    }
+}
+
 // The check on opening, the reader and the questions, of the archive in the front of a target.
 fn ask_written(
     target: &[u8],
@@ -165,6 +183,15 @@ fn ask_written(
     archives::open(archive, l, made);
     archives::read(archive, entries, lengths, l, seed, made);
     ask(questions, archive, entries, lengths, l, seed, made);
+    ask_booleans(
+        questions / 4,
+        archive,
+        entries,
+        lengths,
+        l,
+        draw(seed, 5),
+        made,
+    );
     walk(archive, entries, l, seed, made);
 }
 

@@ -2,8 +2,12 @@
 // and is proved safe, not right.
 pub mod archive;
 mod asked;
+pub mod boolean;
+pub mod marks;
 pub mod numbers;
 pub mod outcome;
 pub mod pairs;
+mod postfix;
+mod reading;
 pub mod search;
 pub mod weighted;

@@ -1,6 +1,7 @@
 // Numbers and slices without a bound to prove, for the programs of the gate: a place outside a slice reads as 0, and nothing is written there.
 mod bytes;
 mod numbers;
+mod shorts;
 
 pub use bytes::fill_bytes;
 pub use bytes::put_byte;
@@ -20,3 +21,4 @@ pub use numbers::put;
 pub use numbers::put_pair;
 pub use numbers::same;
 pub use numbers::up;
+pub use shorts::put_short;

@@ -41,20 +41,29 @@ fn name(kind: u32) {
         17 => text(b"weighted"),
         18 => text(b"walk of places"),
         19 => text(b"conjunction of patterns"),
-        _ => text(b"weighted of patterns"),
+        20 => text(b"weighted of patterns"),
+        21 => text(b"boolean"),
+        _ => text(b"boolean of sequences"),
     }
 }
 
-const KINDS: u32 = 21;
+const KINDS: u32 = 23;
 
 // A refusal's slot is its number and this.
-const REFUSALS: u32 = 21;
+const REFUSALS: u32 = 23;
 
 // How many of the weighted searches of patterns end so: an end's slot is its number and this.
-const ENDS: u32 = 40;
+const ENDS: u32 = 48;
 
 // How many of the places that are asked for are the end.
-const AT_THE_END: u32 = 50;
+const AT_THE_END: u32 = 53;
+
+// How many of the boolean questions match no document, some, and all.
+const NO_MATCH: u32 = 54;
+
+const SOME_MATCH: u32 = 55;
+
+const ALL_MATCH: u32 = 56;
 
 const DIFFERENCES: u32 = 63;
 
@@ -132,6 +141,35 @@ pub fn count_place(place: Outcome, n: u32, made: &mut [u32; 64]) {
     }
 }
 
+// Of a boolean question.
+pub fn count_matches(answer: Outcome, documents: u32, made: &mut [u32; 64]) {
+    if answer.what != NUMBER {
+        return;
+    }
+    if answer.x == 0 {
+        count_at(made, NO_MATCH);
+    } else if answer.x == documents {
+        count_at(made, ALL_MATCH);
+    } else {
+        count_at(made, SOME_MATCH);
+    }
+}
+
+// How many there are.
+pub fn differences(made: &[u32; 64]) -> u32 {
+    at(made, DIFFERENCES)
+}
+
+// A line of the first so many numbers.
+pub fn show_numbers(numbers: &[u32], size: u32) {
+    let mut i = 0;
+    while i < size {
+        show(at(numbers, i));
+        i += 1;
+    }
+    text(b"\n");
+}
+
 fn line(kind: u32, made: &[u32; 64]) {
     name(kind);
     show(at(made, kind));
@@ -160,14 +198,14 @@ fn refusal_line(x: u32, made: &[u32; 64]) {
 
 fn refusals(made: &[u32; 64]) {
     let mut x = 0;
-    while x < 18 {
+    while x < 19 {
         refusal_line(x, made);
         x += 1;
     }
 }
 
 fn ends(made: &[u32; 64]) {
-    text(b"of these done");
+    text(b"weighted of patterns: done");
     show(at(made, plus(ENDS, DONE)));
     text(b", spent");
     show(at(made, plus(ENDS, SPENT)));
@@ -176,12 +214,24 @@ fn ends(made: &[u32; 64]) {
     text(b"\n");
 }
 
-// One line a kind of question, and how many were compared; how the last kind ended, and how many places were the end; then how many are refused, by number; then the differences.
+fn matches(made: &[u32; 64]) {
+    text(b"boolean: no document");
+    show(at(made, NO_MATCH));
+    text(b", some");
+    show(at(made, SOME_MATCH));
+    text(b", all");
+    show(at(made, ALL_MATCH));
+    text(b"\n");
+}
+
+// One line a kind of question, and how many were compared; how the weighted searches of patterns ended, how many places were the end, and how many
+// documents matched; then how many are refused, by number; then the differences.
 pub fn totals(made: &[u32; 64]) {
     kinds(made);
     ends(made);
+    matches(made);
     refusals(made);
     text(b"differences");
-    show(at(made, DIFFERENCES));
+    show(differences(made));
     text(b"\n");
 }
