@@ -1,6 +1,7 @@
 // Cases: each line of standard input is printed. One that begins with the name of an operation, and a space, makes an archive or asks a question, and
 // what is found follows it.
 mod archives;
+mod booleans;
 mod damaged;
 mod names;
 mod numbers;
@@ -31,6 +32,10 @@ fn answer(q: Question, numbers: &[u32], size: u32, bytes: &mut [u8]) -> u32 {
         0 => archives::write(numbers, bytes),
         1 => archives::put_bytes(numbers, bytes),
         2 => archives::cut(q.a),
+        22 => {
+            booleans::ask(numbers, size, bytes);
+            size
+        }
         _ => {
             ask_damaged(q, part_of(q, size), bytes);
             size
