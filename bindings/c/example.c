@@ -8,7 +8,7 @@ enum { N = 4, ROOM = 128 };
 
 static uint8_t archive[ROOM];
 static size_t size;
-static char said[4096];
+static char said[8192];
 
 /* One line of what was answered: a name, the answer's number, and so many values. */
 static void say(const char *name, uint32_t code, const uint32_t *values, size_t count) {
@@ -101,6 +101,60 @@ static void weigh(void) {
   say("  done", code, end, 2);
 }
 
+enum { AND = MASUVELIOR_AND, OR = MASUVELIOR_OR, NOT = MASUVELIOR_NOT, OPEN = MASUVELIOR_OPEN, CLOSE = MASUVELIOR_CLOSE };
+
+/* A question with and, or, not, put to the checked function and to that of an opened archive: one line for each. Documents are listed without
+ * counts, so N numbers are room enough. */
+static void match(const char *name, const uint16_t *question, size_t length) {
+  uint32_t answers[MASUVELIOR_BOOLEAN_LENGTH(N)], listed = 0;
+  uint32_t code = masuvelior_boolean(archive, size, question, length, answers, N, &listed);
+  say(name, code, answers, listed);
+  listed = 0;
+  code = masuvelior_opened_boolean(archive, size, question, length, answers, N, &listed);
+  say("  opened", code, answers, listed);
+}
+
+/* So many brackets around term 0. */
+static void match_nested(const char *name, size_t depth) {
+  uint16_t question[MASUVELIOR_MAX_QUESTION + 1];
+  for (size_t i = 0; i < 2 * depth + 1; i++) question[i] = i < depth ? OPEN : i > depth ? CLOSE : 0;
+  match(name, question, 2 * depth + 1);
+}
+
+/* So many times 'not' before term 0. */
+static void match_denied(const char *name, size_t times) {
+  uint16_t question[MASUVELIOR_MAX_QUESTION + 1];
+  for (size_t i = 0; i < times; i++) question[i] = NOT;
+  question[times] = 0;
+  match(name, question, times + 1);
+}
+
+#define MATCH(name, ...) match(name, (const uint16_t[]){__VA_ARGS__}, sizeof((const uint16_t[]){__VA_ARGS__}) / sizeof(uint16_t))
+
+/* Term 0 has the documents 0, 1 and 3, term 1 none, term 2 all. Refusal 18 comes before 11. */
+static void match_all(void) {
+  MATCH("2 and not 0", 2, AND, NOT, 0);
+  MATCH("2 and not 0 or 1", 2, AND, NOT, 0, OR, 1);
+  MATCH("not 1", NOT, 1);
+  MATCH("0 or 2 and 1", 0, OR, 2, AND, 1);
+  MATCH("(0 or 2) and 1", OPEN, 0, OR, 2, CLOSE, AND, 1);
+  MATCH("not not 0", NOT, NOT, 0);
+  MATCH("not (0 and 2)", NOT, OPEN, 0, AND, 2, CLOSE);
+  match_nested("eight brackets", 8);
+  match_denied("not 63 times", 63);
+  match("nothing", (const uint16_t[]){0}, 0);
+  MATCH("0 0", 0, 0);
+  MATCH("0 and", 0, AND);
+  MATCH("( )", OPEN, CLOSE);
+  MATCH("4096", 4096);
+  MATCH("60005", 60005);
+  match_nested("nine brackets", 9);
+  match_denied("not 64 times", 64);
+  MATCH("3", 3);
+  MATCH("4095", 4095);
+  MATCH("and 3", AND, 3);
+}
+
 /* Many questions of one archive: it was opened once, and is not checked again. */
 static void ask_opened(void) {
   uint32_t x = 99, range[2], answers[2 * N], work[4 * N], listed = 0, end[2];
@@ -166,6 +220,11 @@ static void refusals(void) {
   say("weighted, short answers", code, end, 2);
   code = masuvelior_opened_weighted(archive, size, nine, 1, 2, 9, answers, 4, work, 4 * N - 1, &listed, &end[0], &end[1]);
   say("opened weighted, short work", code, &listed, 1);
+  const uint16_t any[] = {0}, missing[] = {3}, unread[] = {AND, 3};
+  say("boolean, short answers", masuvelior_boolean(archive, size, any, 1, answers, N - 1, &listed), &listed, 1);
+  say("boolean, term 3, short answers", masuvelior_opened_boolean(archive, size, missing, 1, answers, N - 1, &listed), &listed, 1);
+  say("boolean, unread, short answers", masuvelior_boolean(archive, size, unread, 2, answers, N - 1, &listed), &listed, 1);
+  say("boolean, unread, one byte less", masuvelior_boolean(archive, size - 1, unread, 2, answers, N - 1, &listed), &listed, 1);
   say("  answers", 0, answers, 2 * N);
   say("  work", 0, work, 1);
 }
@@ -177,6 +236,7 @@ int main(int argc, char **argv) {
   ask();
   search();
   weigh();
+  match_all();
   ask_opened();
   walk();
   refusals();

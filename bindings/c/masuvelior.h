@@ -2,9 +2,9 @@
  *
  * The library is target/staticlib/libmasuvelior.a, which `rt staticlib masuvelior` proves and builds, for x86-64 Linux. It needs no other
  * library than C's, of that memcpy and memset alone, has no state, allocates nothing and may be called from several threads at once. Of the
- * stack a call takes up to 25 KB (masuvelior_write), 17 KB (masuvelior_read and masuvelior_opened_read), 7 KB (masuvelior_weighted and
- * masuvelior_opened_weighted) or 4 KB (all others); a program that binds memcpy and memset at their first call lets the loader take 3 KB
- * more there.
+ * stack a call takes up to 25 KB (masuvelior_write), 22 KB (masuvelior_boolean and masuvelior_opened_boolean), 17 KB (masuvelior_read and
+ * masuvelior_opened_read), 7 KB (masuvelior_weighted and masuvelior_opened_weighted) or 4 KB (all others); a program that binds memcpy and
+ * memset at their first call lets the loader take 3 KB more there.
  *
  * The answer of each function is 0, or the number of a refusal (enum masuvelior_refusal). Where it is 0 each out-parameter is written, and
  * the lent slices as the function says. Where it is not 0 nothing is written at all.
@@ -34,21 +34,33 @@
 
 /* The edition of the archive's format, and the version of this interface: the minor number rises where functions are added, the major one
  * where a function's parameters or answers change. From 2.0 on a repeated term counts once (masuvelior_conjunction, masuvelior_weighted);
- * before, it counted each time. From 3.0 on masuvelior_select answers n where a document has fewer than j entries; before, UINT32_MAX. */
+ * before, it counted each time. From 3.0 on masuvelior_select answers n where a document has fewer than j entries; before, UINT32_MAX. 3.1
+ * added questions with and, or, not (masuvelior_boolean). */
 #define MASUVELIOR_EDITION 1
 #define MASUVELIOR_VERSION_MAJOR 3
-#define MASUVELIOR_VERSION_MINOR 0
+#define MASUVELIOR_VERSION_MINOR 1
 
-/* The limits: n is 0 to MASUVELIOR_MAX_ENTRIES, N and W are 1 to theirs, and a conjunction or a weighted search is given 1 to
- * MASUVELIOR_MAX_CHOSEN terms. */
+/* The limits: n is 0 to MASUVELIOR_MAX_ENTRIES, N and W are 1 to theirs, a conjunction or a weighted search is given 1 to
+ * MASUVELIOR_MAX_CHOSEN terms, and a question with and, or, not has 1 to MASUVELIOR_MAX_QUESTION numbers and at most
+ * MASUVELIOR_MAX_DEPTH brackets open at once. */
 #define MASUVELIOR_MAX_ENTRIES 65535
 #define MASUVELIOR_MAX_DOCUMENTS 4096
 #define MASUVELIOR_MAX_TERMS 4096
 #define MASUVELIOR_MAX_CHOSEN 8
+#define MASUVELIOR_MAX_QUESTION 64
+#define MASUVELIOR_MAX_DEPTH 8
 
-/* How many numbers are asked for: in the answer slice of list and conjunction, in that of top-k, by count or by score, and in the work
- * slice of top-k. */
+/* The marks in a question with and, or, not. A number below MASUVELIOR_MAX_TERMS is a term. */
+#define MASUVELIOR_AND 60000
+#define MASUVELIOR_OR 60001
+#define MASUVELIOR_NOT 60002
+#define MASUVELIOR_OPEN 60003
+#define MASUVELIOR_CLOSE 60004
+
+/* How many numbers are asked for: in the answer slice of list and conjunction, in that of a question with and, or, not, in that of top-k, by
+ * count or by score, and in the work slice of top-k. */
 #define MASUVELIOR_LIST_LENGTH(documents) (2 * (size_t)(documents))
+#define MASUVELIOR_BOOLEAN_LENGTH(documents) ((size_t)(documents))
 #define MASUVELIOR_TOP_K_LENGTH(k, documents) (2 * (size_t)((k) < (documents) ? (k) : (documents)))
 #define MASUVELIOR_WORK_LENGTH(documents) (4 * (size_t)(documents))
 
@@ -71,7 +83,7 @@
 extern "C" {
 #endif
 
-/* Why an operation refused. The lowest number that applies is given. */
+/* Why an operation refused. The lowest number that applies is given, but 18 comes before 11 and 12. */
 enum masuvelior_refusal {
   MASUVELIOR_OK = 0, /* not refused */
   /* opening */
@@ -94,7 +106,9 @@ enum masuvelior_refusal {
   MASUVELIOR_REFUSED_WRITER_LIMITS = 14, /* n, N or W is outside its limits */
   MASUVELIOR_REFUSED_WRITER_ENTRY = 15, /* an entry is N or more */
   MASUVELIOR_REFUSED_WRITER_LENGTHS = 16, /* the term lengths do not add up to n */
-  MASUVELIOR_REFUSED_WRITER_TARGET = 17 /* the target is shorter than the archive */
+  MASUVELIOR_REFUSED_WRITER_TARGET = 17, /* the target is shorter than the archive */
+  /* a question with and, or, not */
+  MASUVELIOR_REFUSED_QUESTION = 18 /* a question that is empty, too long, too deep or without a reading */
 };
 
 /* ---- the archive */
@@ -174,6 +188,19 @@ MASUVELIOR_MUST_USE
 uint32_t masuvelior_conjunction(const uint8_t *archive, size_t archive_length, const uint32_t *chosen, size_t chosen_length,
                                 uint32_t *answers, size_t answers_length, uint32_t *listed);
 
+/* Every document that matches a question with and, or, not, ascending, one number each in the front of the answer slice, whose rest is
+ * untouched; `listed` is how many there are. A question is up to 64 numbers: terms, which are below 4,096, and the marks MASUVELIOR_AND, _OR,
+ * _NOT, _OPEN and _CLOSE, the last two of them brackets. A term matches the documents with an entry under it. 'Not' matches all other documents
+ * of the archive, and may be repeated. 'Not' binds tightest, then 'and', then 'or'; equal ones group to the left; brackets nest at most eight
+ * deep, for which 'not' does not count. So 7 AND NOT 8 OR 9 is (7 and (not 8)) or 9.
+ * 18, before 11 and 12: a question that is empty, too long, too deep or has no reading; a number that is neither a term nor a mark leaves it
+ * without one. 11: a term W or more, up to 4,095. 12: answers under N numbers. 10 is never given.
+ * Cost: the question is read once, and once again for each 64 of the N documents; for each different term, up to 4 ranks for each node of the tree
+ * with an entry of the term in it: at most h for each document of the term. */
+MASUVELIOR_MUST_USE
+uint32_t masuvelior_boolean(const uint8_t *archive, size_t archive_length, const uint16_t *question, size_t question_length,
+                            uint32_t *answers, size_t answers_length, uint32_t *listed);
+
 /* The terms first to last as entries: from the start of the first to the end of the last. 11: first > last, a term W or more.
  * Cost: two numbers of the term table. */
 MASUVELIOR_MUST_USE
@@ -235,7 +262,7 @@ uint32_t masuvelior_weighted(const uint8_t *archive, size_t archive_length, cons
 /* ---- the same for an archive that was opened before, without the check
  *
  * What the caller keeps beside the above: masuvelior_open answered 0 for these very bytes and this length, and they are unchanged since.
- * Then each answers, writes and refuses (10 to 13) as its namesake above. Of other bytes nothing is promised. */
+ * Then each answers, writes and refuses (10 to 13, and 18) as its namesake above. Of other bytes nothing is promised. */
 
 MASUVELIOR_MUST_USE
 uint32_t masuvelior_opened_read(const uint8_t *archive, size_t archive_length,
@@ -270,6 +297,10 @@ uint32_t masuvelior_opened_list_terms(const uint8_t *archive, size_t archive_len
 MASUVELIOR_MUST_USE
 uint32_t masuvelior_opened_conjunction(const uint8_t *archive, size_t archive_length, const uint32_t *chosen, size_t chosen_length,
                                        uint32_t *answers, size_t answers_length, uint32_t *listed);
+
+MASUVELIOR_MUST_USE
+uint32_t masuvelior_opened_boolean(const uint8_t *archive, size_t archive_length, const uint16_t *question, size_t question_length,
+                                   uint32_t *answers, size_t answers_length, uint32_t *listed);
 
 MASUVELIOR_MUST_USE
 uint32_t masuvelior_opened_range_of_terms(const uint8_t *archive, size_t archive_length, uint32_t first, uint32_t last,

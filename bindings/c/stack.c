@@ -7,17 +7,26 @@
 #include <ucontext.h>
 
 enum { STACK = 1 << 17, PAINT = 0xA5, N = MASUVELIOR_MAX_DOCUMENTS, W = MASUVELIOR_MAX_TERMS, ENTRIES = MASUVELIOR_MAX_ENTRIES };
-enum { WRITER = 25 * 1024, READER = 17 * 1024, WEIGHTED = 7 * 1024, OTHER = 4 * 1024 };
+enum { WRITER = 25 * 1024, BOOLEAN = 22 * 1024, READER = 17 * 1024, WEIGHTED = 7 * 1024, OTHER = 4 * 1024 };
 
 /* A library at every limit, with entries in every node: calls go all their way. */
 static uint32_t entries[ENTRIES], lengths[W], answers[2 * N], work[4 * N], listed, spent, number;
 static const uint32_t chosen[MASUVELIOR_MAX_CHOSEN] = {0, 1, 2, 3, 4, 5, 6, 7};
+static uint16_t question[MASUVELIOR_MAX_QUESTION];
 static uint8_t archive[1 << 18];
 static size_t size, needed;
 
 static void make_library(void) {
   for (uint32_t i = 0; i < ENTRIES; i++) entries[i] = (i * 2654435761u) >> 20;
   for (uint32_t t = 0; t < W; t++) lengths[t] = t < 8 ? 4096 : t == W - 1 ? ENTRIES - 8 * 4096 : 0;
+}
+
+/* The question that is read deepest: brackets as deep as they may nest, and in them one term, behind as many 'not' as there is room for. */
+static void make_question(void) {
+  enum { LAST = MASUVELIOR_MAX_QUESTION - 1 - MASUVELIOR_MAX_DEPTH };
+  for (size_t i = 0; i < MASUVELIOR_MAX_QUESTION; i++)
+    question[i] = i < MASUVELIOR_MAX_DEPTH ? MASUVELIOR_OPEN : i < LAST ? MASUVELIOR_NOT : MASUVELIOR_CLOSE;
+  question[LAST] = 0;
 }
 
 /* Every function: the end of its name, its bound, the call. */
@@ -34,6 +43,7 @@ static void make_library(void) {
   X(form##list, OTHER, (BYTES, 0, ENTRIES, PAIRS))                                                           \
   X(form##list_terms, OTHER, (BYTES, 0, W - 1, PAIRS))                                                       \
   X(form##conjunction, OTHER, (BYTES, chosen, MASUVELIOR_MAX_CHOSEN, PAIRS))                                 \
+  X(form##boolean, BOOLEAN, (BYTES, question, MASUVELIOR_MAX_QUESTION, answers, N, &listed))                 \
   X(form##range_of_terms, OTHER, (BYTES, 0, W - 1, &listed, &number))                                        \
   X(form##greedy_entries, OTHER, (BYTES, 0, ENTRIES, N, UINT32_MAX, SEARCH, &spent, &number))                \
   X(form##greedy_terms, OTHER, (BYTES, 0, W - 1, N, UINT32_MAX, SEARCH, &spent, &number))                    \
@@ -82,6 +92,7 @@ int main(void) {
   size_t count = sizeof calls / sizeof calls[0], deepest = 0;
   int failed = 0;
   make_library();
+  make_question();
   for (size_t i = 0; i < count; i++) {
     size_t bytes = used(calls[i].call);
     if (calls[i].bound == OTHER && bytes > deepest) deepest = bytes;
@@ -91,6 +102,6 @@ int main(void) {
       failed = 1;
     }
   }
-  printf("stack: the deepest of the %zu others takes %zu bytes\n", count - 5, deepest);
+  printf("stack: the deepest of the %zu others takes %zu bytes\n", count - 7, deepest);
   return failed;
 }

@@ -15,6 +15,7 @@ void expect(const char *what, bool holds) {
 }
 
 const uint32_t *lent(const std::vector<uint32_t> &v) { return MASUVELIOR_LENT(const uint32_t, v.data()); }
+const uint16_t *lent(const std::vector<uint16_t> &v) { return MASUVELIOR_LENT(const uint16_t, v.data()); }
 uint32_t *lent(std::vector<uint32_t> &v) { return MASUVELIOR_LENT(uint32_t, v.data()); }
 uint8_t *lent(std::vector<uint8_t> &v) { return MASUVELIOR_LENT(uint8_t, v.data()); }
 
@@ -55,6 +56,21 @@ void ask(std::vector<uint8_t> &archive) {
   expect("no terms to weigh", nothing == MASUVELIOR_REFUSED_TERM_COUNT && listed == 0);
 }
 
+// Questions with and, or, not: an empty one is refused before an empty answer slice is, and 'not' lists every document where a term has none.
+void match(std::vector<uint8_t> &archive) {
+  uint32_t listed = 9;
+  std::vector<uint32_t> none, answers(MASUVELIOR_BOOLEAN_LENGTH(5), 9);
+  const std::vector<uint16_t> empty, term = {1}, denied = {MASUVELIOR_NOT, 1};
+  const uint32_t unread = masuvelior_boolean(lent(archive), archive.size(), lent(empty), empty.size(), lent(none), none.size(), &listed);
+  expect("an empty question", unread == MASUVELIOR_REFUSED_QUESTION && listed == 9);
+  const uint32_t small = masuvelior_opened_boolean(lent(archive), archive.size(), lent(term), term.size(), lent(none), none.size(), &listed);
+  expect("no room for documents", small == MASUVELIOR_REFUSED_ANSWER_SLICE && listed == 9);
+  const uint32_t nothing = masuvelior_boolean(lent(archive), archive.size(), lent(term), term.size(), lent(answers), answers.size(), &listed);
+  expect("a term without entries", nothing == MASUVELIOR_OK && listed == 0 && answers[0] == 9);
+  const uint32_t all = masuvelior_boolean(lent(archive), archive.size(), lent(denied), denied.size(), lent(answers), answers.size(), &listed);
+  expect("all other documents", all == MASUVELIOR_OK && listed == 5 && answers == std::vector<uint32_t>({0, 1, 2, 3, 4}));
+}
+
 }  // namespace
 
 int main() {
@@ -63,6 +79,8 @@ int main() {
   expect("no bytes", masuvelior_open(lent(empty), empty.size(), &n, &documents, &terms) == MASUVELIOR_REFUSED_TOO_SHORT);
   std::vector<uint8_t> archive = without_entries();
   ask(archive);
-  expect("macros of lengths", MASUVELIOR_TOP_K_LENGTH(UINT32_MAX, 4u) == 8 && MASUVELIOR_TOP_K_LENGTH(3, 4) == 6 && MASUVELIOR_LIST_LENGTH(4) == 8);
+  match(archive);
+  expect("macros of lengths of top-k", MASUVELIOR_TOP_K_LENGTH(UINT32_MAX, 4u) == 8 && MASUVELIOR_TOP_K_LENGTH(3, 4) == 6);
+  expect("macros of lengths", MASUVELIOR_LIST_LENGTH(4) == 8 && MASUVELIOR_BOOLEAN_LENGTH(4) == 4);
   return failed;
 }
