@@ -2,7 +2,7 @@
 //!
 //!     cargo run --example build -- harbour.archive
 use masuvelior::Over::Terms;
-use masuvelior::{per_mille, write, Archive};
+use masuvelior::{per_mille, write, Archive, Expr};
 use std::collections::BTreeMap;
 use std::error::Error;
 
@@ -40,6 +40,13 @@ fn main() -> Result<(), Box<dyn Error>> {
     let (found, _) = archive.weighted(&[numbers["storm"], numbers["the"]], 3, u32::MAX)?;
     for scored in found {
         println!("  score {}: {}", scored.score, TEXTS[scored.document as usize]);
+    }
+
+    println!("'harbour' or 'boat', and not 'storm':");
+    let term = |word: &str| Expr::term(numbers[word]);
+    let question = (term("harbour") | term("boat")) & !term("storm");
+    for document in archive.boolean(question.numbers())? {
+        println!("  {}", TEXTS[document as usize]);
     }
 
     // Neighbours in the dictionary are one range: 'storm' to 'tide' has 'the' between them.

@@ -12,7 +12,7 @@
 //!
 //! ```
 //! use masuvelior::Over::{Entries, Terms};
-//! use masuvelior::{write, Archive, Ended};
+//! use masuvelior::{write, Archive, Ended, Expr};
 //!
 //! // Eight entries: three under term 0, none under term 1, five under term 2.
 //! let bytes = write(&[3, 1, 0, 3, 2, 1, 3, 0], &[3, 0, 5], 4)?;
@@ -32,6 +32,10 @@
 //! let (documents, ended) = archive.weighted(&[0, 2], 4, 3)?;
 //! assert_eq!(documents, [(0, 1), (1, 1), (3, 1), (2, 0)]); // each with its score
 //! assert_eq!(ended, Ended::Done { openings: 3 });
+//!
+//! // Documents under term 2 and not under term 0.
+//! let question = Expr::term(2) & !Expr::term(0);
+//! assert_eq!(archive.boolean(question.numbers())?, [2]);
 //! # Ok::<(), masuvelior::Refusal>(())
 //! ```
 #![warn(missing_docs)]
@@ -39,6 +43,9 @@
 
 mod archive;
 mod argument;
+mod boolean;
+mod expr;
+pub mod marks;
 mod pairs;
 mod per_mille;
 mod questions;
@@ -51,6 +58,7 @@ mod write;
 
 pub use archive::Archive;
 pub use argument::Argument;
+pub use expr::Expr;
 pub use pairs::{Counted, Scored};
 pub use per_mille::per_mille;
 pub use range::Over;

@@ -1,4 +1,4 @@
-//! The questions asked of an archive; top-k has a file of its own.
+//! The questions asked of an archive; top-k and questions with and, or, not have files of their own.
 use crate::archive::Archive;
 use crate::argument::Argument;
 use crate::pairs::{numbers, room, Counted};

@@ -3,7 +3,7 @@ use crate::argument::Argument;
 use std::error::Error;
 use std::fmt;
 
-/// A refusal: the lowest number of the table that applies. Nothing was written.
+/// A refusal: the lowest number of the table that applies, but 18 comes before 11 and 12. Nothing was written.
 ///
 /// ```
 /// use masuvelior::{Archive, Refusal};
@@ -50,11 +50,13 @@ pub enum Refusal {
     WriterLengths,
     /// 17, the writer: the target is shorter than the archive.
     WriterTarget,
+    /// 18, a question with and, or, not: it is empty, too long, too deep or without a reading.
+    Question,
 }
 
 impl Refusal {
     /// Every refusal, by number; the argument of 11 has no name there.
-    pub const ALL: [Refusal; 17] = [
+    pub const ALL: [Refusal; 18] = [
         Refusal::TooShort,
         Refusal::Edition,
         Refusal::Limits,
@@ -72,9 +74,10 @@ impl Refusal {
         Refusal::WriterEntry,
         Refusal::WriterLengths,
         Refusal::WriterTarget,
+        Refusal::Question,
     ];
 
-    /// Its number in the table, 1 to 17.
+    /// Its number in the table, 1 to 18.
     pub fn number(self) -> u32 {
         self.row().0
     }
@@ -110,6 +113,7 @@ impl Refusal {
             Refusal::WriterEntry => (15, "an entry is N or more"),
             Refusal::WriterLengths => (16, "the term lengths do not add up to n"),
             Refusal::WriterTarget => (17, "the target is shorter than the archive"),
+            Refusal::Question => (18, "a question that is empty, too long, too deep or without a reading"),
         }
     }
 

@@ -36,6 +36,7 @@ declare! {
     masuvelior_list(archive: *const u8, archive_length: usize, a: u32, b: u32, answers: *mut u32, answers_length: usize, listed: *mut u32);
     masuvelior_list_terms(archive: *const u8, archive_length: usize, first: u32, last: u32, answers: *mut u32, answers_length: usize, listed: *mut u32);
     masuvelior_conjunction(archive: *const u8, archive_length: usize, chosen: *const u32, chosen_length: usize, answers: *mut u32, answers_length: usize, listed: *mut u32);
+    masuvelior_boolean(archive: *const u8, archive_length: usize, question: *const u16, question_length: usize, answers: *mut u32, answers_length: usize, listed: *mut u32);
     masuvelior_range_of_terms(archive: *const u8, archive_length: usize, first: u32, last: u32, from: *mut u32, to: *mut u32);
     masuvelior_greedy_entries(archive: *const u8, archive_length: usize, a: u32, b: u32, k: u32, allowance: u32, answers: *mut u32, answers_length: usize, work: *mut u32, work_length: usize, listed: *mut u32, spent: *mut u32, number: *mut u32);
     masuvelior_greedy_terms(archive: *const u8, archive_length: usize, first: u32, last: u32, k: u32, allowance: u32, answers: *mut u32, answers_length: usize, work: *mut u32, work_length: usize, listed: *mut u32, spent: *mut u32, number: *mut u32);
@@ -55,6 +56,7 @@ declare! {
     masuvelior_opened_list(archive: *const u8, archive_length: usize, a: u32, b: u32, answers: *mut u32, answers_length: usize, listed: *mut u32);
     masuvelior_opened_list_terms(archive: *const u8, archive_length: usize, first: u32, last: u32, answers: *mut u32, answers_length: usize, listed: *mut u32);
     masuvelior_opened_conjunction(archive: *const u8, archive_length: usize, chosen: *const u32, chosen_length: usize, answers: *mut u32, answers_length: usize, listed: *mut u32);
+    masuvelior_opened_boolean(archive: *const u8, archive_length: usize, question: *const u16, question_length: usize, answers: *mut u32, answers_length: usize, listed: *mut u32);
     masuvelior_opened_range_of_terms(archive: *const u8, archive_length: usize, first: u32, last: u32, from: *mut u32, to: *mut u32);
     masuvelior_opened_greedy_entries(archive: *const u8, archive_length: usize, a: u32, b: u32, k: u32, allowance: u32, answers: *mut u32, answers_length: usize, work: *mut u32, work_length: usize, listed: *mut u32, spent: *mut u32, number: *mut u32);
     masuvelior_opened_greedy_terms(archive: *const u8, archive_length: usize, first: u32, last: u32, k: u32, allowance: u32, answers: *mut u32, answers_length: usize, work: *mut u32, work_length: usize, listed: *mut u32, spent: *mut u32, number: *mut u32);

@@ -1,6 +1,6 @@
 //! A refused argument has its name: each question of a small library, at and past every edge.
 use masuvelior::Over::{Entries, Terms};
-use masuvelior::{per_mille, write, Archive, Argument, Over, Refusal};
+use masuvelior::{per_mille, write, Archive, Argument, Expr, Over, Refusal};
 
 const EDGES: [u32; 12] = [0, 1, 2, 3, 4, 5, 7, 8, 9, 10, u32::MAX - 1, u32::MAX];
 
@@ -23,6 +23,7 @@ fn of_one_number() {
         hold(archive.access(x), &[(x >= 8, Argument::Place)]);
         hold(archive.conjunction(&[0, x]), &[(x >= 3, Argument::Term)]);
         hold(archive.weighted(&[x, 2], 2, 9), &[(x >= 3, Argument::Term)]);
+        hold(archive.boolean(Expr::term(x.min(4_095)).or(Expr::term(2)).numbers()), &[(x >= 3, Argument::Term)]);
         for y in EDGES {
             hold(archive.rank(x, y), &[(x >= 4, Argument::Document), (y > 8, Argument::Before)]);
             hold(archive.select(x, y), &[(x >= 4, Argument::Document), (y == 0, Argument::Occurrence)]);

@@ -54,6 +54,7 @@ pub fn whole(archive: &Archive, question: &Question) -> Result<Answer, u32> {
         Question::Probing { span, k } => archive.probing(over(*span), *k).map(|found| pairs(&found)),
         Question::List { span } => archive.list(over(*span)).map(|found| pairs(&found)),
         Question::Conjunction { terms } => archive.conjunction(terms).map(|found| pairs(&found)),
+        Question::Boolean { question } => archive.boolean(question).map(|found| documents(&found)),
         _ => numbers(archive, question),
     };
     answer.map_err(Refusal::number)
@@ -74,6 +75,7 @@ pub fn lent(archive: &Archive, question: &Question, scratch: &mut Scratch) -> Re
         Question::Weighted { terms, k, allowance } => in_pairs::<Scored>(&mut scratch.first, |lent| {
             archive.weighted_into(terms, *k, *allowance, lent, work).map(|(found, ended)| with_end(found, ended))
         }),
+        Question::Boolean { question } => archive.boolean_into(question, &mut scratch.first).map(documents),
         _ => in_pairs::<Counted>(&mut scratch.first, |lent| lent_pairs(archive, question, lent, work)),
     };
     answer.map_err(Refusal::number)
@@ -129,6 +131,10 @@ fn flat<P: Copy + Into<(u32, u32)>>(found: &[P]) -> Vec<u32> {
         [document, number]
     };
     found.iter().flat_map(two).collect()
+}
+
+fn documents(found: &[u32]) -> Answer {
+    Answer { numbers: vec![found.len() as u32], first: found.to_vec(), second: vec![] }
 }
 
 fn pairs<P: Copy + Into<(u32, u32)>>(found: &[P]) -> Answer {

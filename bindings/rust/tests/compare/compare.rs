@@ -18,6 +18,7 @@ pub fn needed(library: &Library, question: &Question) -> Lent {
     let (first, second) = match question {
         Question::Read => (library.entries.len(), library.lengths.len()),
         Question::List { .. } | Question::Conjunction { .. } => (2 * documents, 0),
+        Question::Boolean { .. } => (documents, 0),
         Question::Greedy { k, .. } | Question::Probing { k, .. } | Question::Weighted { k, .. } => {
             (2 * documents.min(*k as usize), 4 * documents)
         }
@@ -52,7 +53,7 @@ fn without_work(question: &Question, mut right: Result<Answer, u32>) -> Result<A
 
 fn compare_lent(archive: &Archive, library: &Library, question: &Question, slices: Lent) {
     let mut scratch = Scratch::new(slices.first, slices.second);
-    if *question != Question::Read {
+    if !matches!(question, Question::Read | Question::Boolean { .. }) {
         scratch.first.truncate(slices.first / 2 * 2); // pairs are lent
     }
     let size = Lent { first: scratch.first.len(), second: scratch.second.len() };

@@ -1,6 +1,6 @@
-//! The declarations in `src/sys.rs` are those of the C header, all of them, and so is what it cites. The header's refusals and its version are
-//! the crate's.
-use masuvelior::Refusal;
+//! The declarations in `src/sys.rs` are those of the C header, all of them, and so is what it cites. The header's refusals, its marks and its
+//! version are the crate's.
+use masuvelior::{marks, Refusal};
 
 const HEADER: &str = include_str!("../../../c/masuvelior.h");
 const DECLARED: &str = include_str!("../../src/sys.rs");
@@ -21,6 +21,7 @@ fn parameter(c: &str) -> String {
         "uint32_t" => "u32",
         "size_t" => "usize",
         "const uint8_t *" => "*const u8",
+        "const uint16_t *" => "*const u16",
         "const uint32_t *" => "*const u32",
         "uint8_t *" => "*mut u8",
         "uint32_t *" => "*mut u32",
@@ -48,7 +49,7 @@ fn declared_as_in_the_header() {
     }
     assert_eq!(declared.len(), functions.len());
     assert_eq!(functions.len(), code().matches("uint32_t masuvelior_").count());
-    assert!(functions.len() >= 34);
+    assert!(functions.len() >= 36);
 }
 
 /// What the SAFETY comments cite stands in the header, word for word.
@@ -81,11 +82,21 @@ fn refusals_of_the_header() {
         let name = format!("{refusal:?}");
         let name = upper(name.split('(').next().unwrap());
         let (number, sentence) = (refusal.number(), refusal.sentence());
-        let comma = if number < 17 { "," } else { "" };
+        let comma = if number < 18 { "," } else { "" };
         let line = format!("MASUVELIOR_REFUSED_{name} = {number}{comma} /* {sentence} */");
         assert!(HEADER.contains(&line), "the header has no: {line}");
     }
-    assert_eq!(HEADER.matches("MASUVELIOR_REFUSED_").count(), 17);
+    assert_eq!(HEADER.matches("MASUVELIOR_REFUSED_").count(), 18);
+}
+
+#[test]
+fn marks_of_the_header() {
+    let marks =
+        [("AND", marks::AND), ("OR", marks::OR), ("NOT", marks::NOT), ("OPEN", marks::OPEN), ("CLOSE", marks::CLOSE)];
+    for (name, number) in marks {
+        let line = format!("#define MASUVELIOR_{name} {number}\n");
+        assert!(HEADER.contains(&line), "the header has no: {line}");
+    }
 }
 
 #[test]

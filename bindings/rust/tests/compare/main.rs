@@ -3,8 +3,10 @@
 //! MASUVELIOR_QUICK=1 makes all rounds shorter, for slow runs as under valgrind.
 mod arguments;
 mod ask;
+mod booleans;
 mod compare;
 mod damage;
+mod expressions;
 mod header;
 mod library;
 mod places;
@@ -12,6 +14,7 @@ mod print;
 mod questions;
 mod random;
 mod raw;
+mod readings;
 mod repeats;
 mod scores;
 mod sweep;

@@ -1,4 +1,5 @@
 //! What `docs/FORMAT.md` prints: the refusals' sentences, and the answers for its libraries.
+use masuvelior::marks::{AND, CLOSE, NOT, OPEN, OR};
 use masuvelior::Over::{Entries, Terms};
 use masuvelior::{per_mille, write, Archive, Argument, Ended, Refusal};
 
@@ -18,7 +19,7 @@ fn sentences_are_those_in_print() {
         assert!(FORMAT.contains(&line), "docs/FORMAT.md has no: {line}");
     }
     assert_eq!(Refusal::from_number(0), None);
-    assert_eq!(Refusal::from_number(18), None);
+    assert_eq!(Refusal::from_number(19), None);
     for argument in Argument::ALL {
         assert!(words().contains(argument.sentence()), "docs/FORMAT.md has no: {argument}");
     }
@@ -111,6 +112,33 @@ fn weighted_of_the_small_library() -> Result<(), Refusal> {
         assert_eq!(got.0, documents, "{terms:?}, k {k}, allowance {allowance}");
         assert_eq!(got.1, ended, "{terms:?}, k {k}, allowance {allowance}");
     }
+    Ok(())
+}
+
+/// Term 0 has the documents 0, 1 and 3, term 1 none, term 2 all.
+#[test]
+fn boolean_of_the_small_library() -> Result<(), Refusal> {
+    let bytes = write(&[3, 1, 0, 3, 2, 1, 3, 0], &[3, 0, 5], 4)?;
+    let archive = Archive::open(&bytes)?;
+    let cases: [(&[u16], &[u32]); 6] = [
+        (&[2, AND, NOT, 0], &[2]),
+        (&[2, AND, NOT, 0, OR, 1], &[2]),
+        (&[NOT, 1], &[0, 1, 2, 3]),
+        (&[0, OR, 2, AND, 1], &[0, 1, 3]),
+        (&[OPEN, 0, OR, 2, CLOSE, AND, 1], &[]),
+        (&[NOT, NOT, 0], &[0, 1, 3]),
+    ];
+    for (question, documents) in cases {
+        assert_eq!(archive.boolean(question)?, documents, "{question:?}");
+    }
+    let nine_deep = [[OPEN; 9].as_slice(), &[0], &[CLOSE; 9]].concat();
+    let sixty_five = [[NOT; 64].as_slice(), &[0]].concat();
+    let unread: [&[u16]; 8] =
+        [&[], &[0, 0], &[0, AND], &[OPEN, CLOSE], &[4_096], &[AND, 3], nine_deep.as_slice(), sixty_five.as_slice()];
+    for question in unread {
+        assert_eq!(archive.boolean(question), Err(Refusal::Question), "{question:?}");
+    }
+    assert_eq!(archive.boolean(&[3]), Err(Refusal::Argument(Argument::Term)));
     Ok(())
 }
 

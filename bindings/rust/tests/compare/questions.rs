@@ -1,5 +1,6 @@
 //! The model of the questions, after `docs/FORMAT.md`: plain counts over the plain list.
 use crate::library::{height, Library};
+use crate::readings::{documents, reading};
 use crate::weighted::weigh;
 
 /// A range: entries a to b, or terms first to last.
@@ -19,6 +20,7 @@ pub enum Question {
     Quantile { span: Span, r: u32 },
     List { span: Span },
     Conjunction { terms: Vec<u32> },
+    Boolean { question: Vec<u16> },
     RangeOfTerms { first: u32, last: u32 },
     Greedy { span: Span, k: u32, allowance: u32 },
     Probing { span: Span, k: u32 },
@@ -45,7 +47,7 @@ pub struct Answer {
 
 pub type Pairs = Vec<(u32, u32)>;
 
-/// What the library answers, or the number of the refusal: the lowest that applies.
+/// What the library answers, or the number of the refusal: the lowest that applies, but 18 before 11 and 12.
 pub fn answer(library: &Library, question: &Question, lent: Lent) -> Result<Answer, u32> {
     match question {
         Question::Read => read(library, lent),
@@ -63,6 +65,11 @@ pub fn answer(library: &Library, question: &Question, lent: Lent) -> Result<Answ
             let found = conjunction(library, terms)?;
             enough(lent.first, 2 * library.documents as usize, 12)?;
             Ok(listed(found))
+        }
+        Question::Boolean { question } => {
+            let found = boolean(library, question)?;
+            enough(lent.first, library.documents as usize, 12)?;
+            Ok(Answer { numbers: vec![found.len() as u32], first: found, second: vec![] })
         }
         Question::RangeOfTerms { first, last } => {
             let (from, to) = term_range(library, *first, *last)?;
@@ -213,6 +220,16 @@ fn conjunction(library: &Library, given: &[u32]) -> Result<Pairs, u32> {
         .filter(|document| of(*document).all(|count| count > 0))
         .map(|document| (document, of(document).sum()))
         .collect())
+}
+
+/// The documents that match a question with and, or, not, ascending.
+fn boolean(library: &Library, question: &[u16]) -> Result<Vec<u32>, u32> {
+    let tree = reading(question).ok_or(18u32)?;
+    let terms = library.lengths.len();
+    if question.iter().any(|number| *number < 4_096 && usize::from(*number) >= terms) {
+        return Err(11);
+    }
+    Ok(documents(library, &tree).into_iter().collect())
 }
 
 /// The first k documents of the range by larger count, then lower number.

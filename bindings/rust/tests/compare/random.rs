@@ -1,6 +1,7 @@
 //! Random numbers from a fixed seed, and random libraries and questions made of them.
 use crate::library::Library;
 use crate::questions::{Lent, Question, Span};
+use masuvelior::marks::{AND, CLOSE, NOT, OPEN, OR};
 
 /// A xorshift generator.
 pub struct Random(u64);
@@ -102,7 +103,7 @@ pub fn question(random: &mut Random, library: &Library) -> Question {
     let n = library.entries.len() as u32;
     let (documents, terms) = (library.documents, library.lengths.len() as u32);
     let span = span(random, library);
-    match random.below(14) {
+    match random.below(16) {
         0 => Question::Read,
         1 => Question::Access { place: random.near(n) },
         2 => Question::Rank { document: random.near(documents), place: random.near(n + 1) },
@@ -113,6 +114,7 @@ pub fn question(random: &mut Random, library: &Library) -> Question {
         7 => Question::Probing { span, k: random.near(documents + 1) },
         8 | 9 => Question::Conjunction { terms: chosen(random, terms) },
         10 | 11 => weighted(random, library),
+        12 | 13 => boolean(random, terms),
         _ => Question::Greedy { span, k: random.near(documents + 1), allowance: random.near(2 * documents) },
     }
 }
@@ -139,6 +141,54 @@ fn chosen(random: &mut Random, terms: u32) -> Vec<u32> {
             _ => random.below(terms),
         })
         .collect()
+}
+
+/// A question with and, or, not: mostly one that is answered.
+pub fn boolean(random: &mut Random, terms: u32) -> Question {
+    let size = random.of_bits(5);
+    let mut question = Vec::new();
+    expression(random, terms, size, &mut question);
+    if random.one_in(8) {
+        spoil(random, &mut question);
+    }
+    Question::Boolean { question }
+}
+
+/// An expression with so many marks between its terms, and some brackets and 'not' that it may not need.
+fn expression(random: &mut Random, terms: u32, marks: u32, question: &mut Vec<u16>) {
+    for _ in 0..random.below(5).saturating_sub(2) {
+        question.push(NOT);
+    }
+    let bracket = random.one_in(4);
+    if bracket {
+        question.push(OPEN);
+    }
+    if marks == 0 {
+        let term = if random.one_in(100) { random.near(terms) } else { random.below(terms) };
+        question.push(term as u16);
+    } else {
+        let first = random.below(marks);
+        expression(random, terms, first, question);
+        question.push(*random.pick(&[AND, OR]));
+        expression(random, terms, marks - 1 - first, question);
+    }
+    if bracket {
+        question.push(CLOSE);
+    }
+}
+
+/// Changes a number of the question, takes it away, puts one before it, or cuts the question there.
+fn spoil(random: &mut Random, question: &mut Vec<u16>) {
+    let place = random.below(question.len() as u32) as usize;
+    let number = *random.pick(&[AND, OR, NOT, OPEN, CLOSE, CLOSE + 1, AND - 1, 4_095, 4_096, u16::MAX, 0]);
+    match random.below(4) {
+        0 => question[place] = number,
+        1 => question.insert(place, number),
+        2 => question.truncate(place),
+        _ => {
+            question.remove(place);
+        }
+    }
 }
 
 /// Slices to lend where so much is needed: mostly enough and some more, at times one too few or none.

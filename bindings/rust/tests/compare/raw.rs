@@ -2,6 +2,7 @@
 use crate::ask::Scratch;
 use crate::questions::{Question, Span};
 use crate::sys::*;
+use masuvelior::marks::AND;
 
 /// The out-parameters before a call.
 pub const UNWRITTEN: [u32; 3] = [0xC001_0001, 0xC002_0002, 0xC003_0003];
@@ -44,11 +45,16 @@ fn with_more(terms: &[u32]) -> Vec<u32> {
     [terms, &[u32::MAX; 8]].concat()
 }
 
+/// The question, and behind it what would make another of it.
+fn with_and_more(question: &[u16]) -> Vec<u16> {
+    [question, &[AND, 0]].concat()
+}
+
 /// Puts the question; the answer is the number that the function answers. The caller keeps what `Form::Opened` says.
 pub fn ask(bytes: &[u8], form: Form, question: &Question, scratch: &mut Scratch, out: &mut [u32; 3]) -> u32 {
     match question {
-        Question::List { .. } | Question::Conjunction { .. } => {
-            pairs(bytes, form, question, &mut scratch.first, &mut out[0])
+        Question::List { .. } | Question::Conjunction { .. } | Question::Boolean { .. } => {
+            one_slice(bytes, form, question, &mut scratch.first, &mut out[0])
         }
         Question::Read | Question::Greedy { .. } | Question::Probing { .. } | Question::Weighted { .. } => {
             two_slices(bytes, form, question, scratch, out)
@@ -89,7 +95,7 @@ fn numbers(bytes: &[u8], form: Form, question: &Question, out: &mut [u32; 3]) ->
     }
 }
 
-fn pairs(bytes: &[u8], form: Form, question: &Question, answers: &mut [u32], listed: &mut u32) -> u32 {
+fn one_slice(bytes: &[u8], form: Form, question: &Question, answers: &mut [u32], listed: &mut u32) -> u32 {
     let (archive, length) = (bytes.as_ptr(), bytes.len());
     let (first, first_length) = (answers.as_mut_ptr(), answers.len());
     // SAFETY: POINTERS, WRITTEN and CONST by the references; OPENED is kept by our caller.
@@ -105,7 +111,12 @@ fn pairs(bytes: &[u8], form: Form, question: &Question, answers: &mut [u32], lis
                 let chosen = with_more(terms);
                 ask(archive, length, chosen.as_ptr(), terms.len(), first, first_length, listed)
             }
-            _ => unreachable!("not of pairs: {question:?}"),
+            Question::Boolean { question } => {
+                let ask = function!(form; masuvelior_boolean, masuvelior_opened_boolean);
+                let more = with_and_more(question);
+                ask(archive, length, more.as_ptr(), question.len(), first, first_length, listed)
+            }
+            _ => unreachable!("not of one slice: {question:?}"),
         }
     }
 }

@@ -142,7 +142,7 @@ fn cases_that_tell_readings_apart() -> Result<(), Refusal> {
 }
 
 /// The small library, and for each refusal of an archive bytes that have it.
-fn archives() -> Vec<(Vec<u8>, u32)> {
+pub fn archives() -> Vec<(Vec<u8>, u32)> {
     let small = archive(&library(4, &[&[3, 1, 0], &[], &[3, 2, 1, 3, 0]]));
     let odd = archive(&library(5, &[&[4, 0, 2], &[4, 1]]));
     let changed = |bytes: &[u8], at: usize, byte: u8| {

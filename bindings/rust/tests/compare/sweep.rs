@@ -4,6 +4,7 @@ use crate::library::{archive, Library};
 use crate::questions::{per_mille, Question, Span};
 use crate::random::{library, Random};
 use crate::{quick, rounds};
+use masuvelior::marks::{AND, CLOSE, NOT, OPEN, OR};
 use masuvelior::{Archive, Refusal};
 
 /// Opens the model's archive of a library at some place of a larger slice, so that the bytes are aligned in any way.
@@ -43,11 +44,26 @@ fn every_question(library: &Library) -> Vec<Question> {
             of_terms(&[first, last], library, &mut all);
         }
     }
+    all.extend(questions_with_marks(terms));
     for size in 0..10 {
         let terms: Vec<u32> = (0..size).map(|i| i % terms).collect();
         of_terms(&terms, library, &mut all);
     }
     all
+}
+
+/// Questions with and, or, not: each of two terms in each way, and each number that is an edge, alone.
+fn questions_with_marks(terms: u32) -> Vec<Question> {
+    let some = || (0..=terms as u16).chain([4_095, 4_096]);
+    let mut all: Vec<Vec<u16>> = [AND - 1, AND, OR, NOT, OPEN, CLOSE, CLOSE + 1, u16::MAX].map(|x| vec![x]).to_vec();
+    for x in some() {
+        all.extend([vec![x], vec![NOT, x], vec![NOT, NOT, x], vec![OPEN, x, CLOSE]]);
+        for (y, mark) in some().flat_map(|y| [(y, AND), (y, OR)]) {
+            all.extend([vec![x, mark, y], vec![NOT, x, mark, y], vec![x, mark, NOT, y]]);
+            all.push(vec![NOT, OPEN, x, mark, y, CLOSE]);
+        }
+    }
+    all.into_iter().map(|question| Question::Boolean { question }).collect()
 }
 
 /// Every question of some terms.
@@ -103,6 +119,7 @@ fn every_question_of_small_libraries() {
     }
     assert_met(&met, 0..=0);
     assert_met(&met, 10..=11);
+    assert_met(&met, 18..=18);
 }
 
 #[test]
@@ -119,6 +136,7 @@ fn random_questions_of_small_libraries() {
     }
     assert_met(&met, 0..=0);
     assert_met(&met, 10..=13);
+    assert_met(&met, 18..=18);
 }
 
 /// n at the edges of bytes and samples, N at powers of two and beside them.
