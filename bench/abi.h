@@ -1,5 +1,5 @@
 // The operations on an archive as C sees them: a slice is its first element and its length, and the levels of an opened archive are numbers.
-// ours.cpp, and peer.cpp with weighted.cpp, have them under a prefix for each way that they are compiled.
+// ours.cpp, and peer.cpp with weighted.cpp and boolean.cpp, have them under a prefix for each way that they are compiled.
 #pragma once
 #include <stddef.h>
 #include <stdint.h>
@@ -27,11 +27,13 @@ typedef uint64_t greedy_fn(LEVELS, size_t documents, size_t a, size_t b, uint32_
 typedef size_t probing_fn(LEVELS, size_t documents, size_t a, size_t b, uint32_t k, uint32_t *answers, size_t answers_len, uint32_t *work, size_t work_len);
 // The terms are as those of the conjunction; the answer is as that of greedy.
 typedef uint64_t weighted_fn(LEVELS, size_t documents, size_t terms, const uint32_t *chosen, uint32_t size, uint32_t k, uint32_t allowance, uint32_t *answers, size_t answers_len, uint32_t *work, size_t work_len);
+// A question with and, or, not of so many numbers, which has a reading; how many documents were written.
+typedef size_t boolean_fn(LEVELS, size_t documents, size_t terms, const uint16_t *question, size_t size, uint32_t *answers, size_t answers_len);
 
 // All of them, under the prefix that F puts before a name.
 #define JOIN_(p, f) p##_##f
 #define JOIN(p, f) JOIN_(p, f)
-#define DECLARE_OPERATIONS open_fn F(open); write_fn F(write); read_fn F(read); access_fn F(access); rank_fn F(rank); select_fn F(select); quantile_fn F(quantile); list_fn F(list); conjunction_fn F(conjunction); greedy_fn F(greedy); probing_fn F(probing); weighted_fn F(weighted);
+#define DECLARE_OPERATIONS open_fn F(open); write_fn F(write); read_fn F(read); access_fn F(access); rank_fn F(rank); select_fn F(select); quantile_fn F(quantile); list_fn F(list); conjunction_fn F(conjunction); greedy_fn F(greedy); probing_fn F(probing); weighted_fn F(weighted); boolean_fn F(boolean);
 
 struct Operations {
   open_fn *open;
@@ -46,4 +48,5 @@ struct Operations {
   greedy_fn *greedy;
   probing_fn *probing;
   weighted_fn *weighted;
+  boolean_fn *boolean;
 };

@@ -1,6 +1,7 @@
-// What select, the conjunction and the searches answer by the definitions in docs/FORMAT.md: from the list alone, sharing nothing with a contender.
+// What select, the conjunction, the searches and questions with and, or, not answer by the definitions in docs/FORMAT.md: from the list alone, sharing nothing with a contender.
 #pragma once
 #include <algorithm>
+#include <iterator>
 #include <set>
 #include <stddef.h>
 #include <stdint.h>
@@ -20,6 +21,43 @@ inline Numbers places_of(const Numbers &list, uint32_t d) {
 
 // What the terms of a question come to: a repeated term counts once.
 inline std::set<uint32_t> different(const uint32_t *given, size_t size) { return std::set<uint32_t>(given, given + size); }
+
+// The marks of a question with and, or, not.
+const uint16_t AND = 60000, OR = 60001, NOT = 60002, OPENS = 60003, CLOSES = 60004;
+
+// The last place from a to b with a mark outside brackets; b where there is none.
+inline const uint16_t *last_outside(const uint16_t *a, const uint16_t *b, uint16_t mark) {
+  const uint16_t *last = b;
+  int depth = 0;
+  for (const uint16_t *p = a; p < b; p++) {
+    depth += (*p == OPENS) - (*p == CLOSES);
+    if (*p == mark && depth == 0) last = p;
+  }
+  return last;
+}
+
+// The documents that match a part of a question with a reading: where it has an or outside brackets, the last of them parts it, else the last and;
+// else it is not with what that is of, a bracket or a word.
+typedef std::set<uint32_t> Documents;
+template <class Under> Documents matching(const uint16_t *a, const uint16_t *b, const Documents &all, Under under) {
+  auto part = [&](const uint16_t *from, const uint16_t *to) { return matching(from, to, all, under); };
+  Documents found;
+  auto into = std::inserter(found, found.end());
+  const uint16_t *last_or = last_outside(a, b, OR), *last_and = last_outside(a, b, AND);
+  if (last_or != b) {
+    Documents first = part(a, last_or), second = part(last_or + 1, b);
+    std::set_union(first.begin(), first.end(), second.begin(), second.end(), into);
+  } else if (last_and != b) {
+    Documents first = part(a, last_and), second = part(last_and + 1, b);
+    std::set_intersection(first.begin(), first.end(), second.begin(), second.end(), into);
+  } else if (*a == NOT) {
+    Documents of = part(a + 1, b);
+    std::set_difference(all.begin(), all.end(), of.begin(), of.end(), into);
+  } else {
+    found = *a == OPENS ? part(a + 1, b - 1) : under(*a);
+  }
+  return found;
+}
 
 // The largest g with 2^g * df^4 at most N^4, by trying each; 0 without entries.
 inline uint32_t weight_by_trying(uint32_t documents, uint32_t df) {

@@ -90,4 +90,10 @@ uint64_t F(weighted)(LEVELS_UNUSED, size_t, size_t, const u32 *chosen, u32 size,
   answered(ASK(weighted)(bytes, len, chosen, size, k, allowance, answers, answers_len, work, work_len, &listed, &spent, &number));
   return (uint64_t)spent << 63 | (uint64_t)number << 32 | listed;
 }
+
+size_t F(boolean)(LEVELS_UNUSED, size_t, size_t, const uint16_t *question, size_t size, u32 *answers, size_t answers_len) {
+  u32 listed = 0;
+  answered(ASK(boolean)(bytes, len, question, size, answers, answers_len, &listed));
+  return listed;
+}
 }

@@ -5,7 +5,9 @@
 #include "contender.h"
 #include "definition.h"
 #include <algorithm>
+#include <deque>
 #include <math.h>
+#include <numeric>
 #include <sched.h>
 #include <stdio.h>
 #include <stdlib.h>
@@ -17,8 +19,8 @@
 Contender scan_contender();
 extern "C" void sdsl_plain(Contender *), sdsl_popcnt(Contender *);
 
-#define PEER(p) extern "C" { open_fn p##_open; write_fn p##_write; read_fn p##_read; access_fn p##_access; rank_fn p##_rank; select_fn p##_select; quantile_fn p##_quantile; list_fn p##_list; conjunction_fn p##_conjunction; greedy_fn p##_greedy; probing_fn p##_probing; weighted_fn p##_weighted; } \
-  constexpr Operations p = {p##_open, p##_write, p##_read, p##_access, p##_rank, p##_select, p##_quantile, p##_list, p##_conjunction, p##_greedy, p##_probing, p##_weighted};
+#define PEER(p) extern "C" { open_fn p##_open; write_fn p##_write; read_fn p##_read; access_fn p##_access; rank_fn p##_rank; select_fn p##_select; quantile_fn p##_quantile; list_fn p##_list; conjunction_fn p##_conjunction; greedy_fn p##_greedy; probing_fn p##_probing; weighted_fn p##_weighted; boolean_fn p##_boolean; } \
+  constexpr Operations p = {p##_open, p##_write, p##_read, p##_access, p##_rank, p##_select, p##_quantile, p##_list, p##_conjunction, p##_greedy, p##_probing, p##_weighted, p##_boolean};
 
 PEER(tight_nopop)
 PEER(plain_nopop)
@@ -111,8 +113,12 @@ template <const Operations &F> struct Tree {
     Archive &x = *(Archive *)p;
     return F.weighted(AT(x), x.documents, x.terms, q.chosen, q.size, q.k, q.allowance, answers, 2 * x.documents, x.work.data(), x.work.size());
   }
+  static uint64_t boolean(void *p, const Query &q, uint32_t *answers) {
+    Archive &x = *(Archive *)p;
+    return F.boolean(AT(x), x.documents, x.terms, q.question, q.size, answers, x.documents);
+  }
   static Contender contender(const char *name) {
-    return {name, build, drop, bytes, {open, write, read, access, rank, select, quantile, list, conjunction, greedy, probing, weighted}};
+    return {name, build, drop, bytes, {open, write, read, access, rank, select, quantile, list, conjunction, greedy, probing, weighted, boolean}};
   }
 };
 
@@ -137,6 +143,9 @@ std::vector<Contender> contenders() {
                                 Tree<opened>::contender("ours"), Tree<checked>::contender("ours checked"), Tree<tight>::contender("tight"), Tree<plain>::contender("plain")};
 #ifdef BEFORE
   all.push_back(Tree<before>::contender("before"));
+#ifdef BEFORE_WITHOUT_BOOLEAN
+  all.back().ops[BOOLEAN] = nullptr;
+#endif
 #endif
 #ifdef SDSL
   Contender two[2];
@@ -221,7 +230,7 @@ struct Data {
 
 // ---- verification
 
-const char *NAMES[OPS] = {"open", "write", "read", "access", "rank", "select", "quantile", "list", "conjunction", "greedy", "probing", "weighted"};
+const char *NAMES[OPS] = {"open", "write", "read", "access", "rank", "select", "quantile", "list", "conjunction", "greedy", "probing", "weighted", "boolean"};
 size_t comparisons = 0;
 
 void expect(bool right, const Contender &c, const char *what) {
@@ -240,8 +249,66 @@ Sums sums_of(const Data &data, Op op, const Query &q) {
 
 bool takes_terms(Op op) { return op == CONJUNCTION || op == WEIGHTED; }
 
+// How many numbers are written for each that the result counts: a pair, a document, or none.
+size_t width(Op op) { return op == BOOLEAN ? 1 : op >= LIST ? 2 : 0; }
+
+// The documents that match a question.
+Numbers matching_of(const Data &data, const Query &q) {
+  Documents all;
+  for (uint32_t d = 0; d < data.documents; d++) all.insert(d);
+  auto under = [&](uint16_t t) { return Documents(data.entries.data() + data.starts[t], data.entries.data() + data.starts[t + 1]); };
+  Documents found = matching(q.question, q.question + q.size, all, under);
+  return Numbers(found.begin(), found.end());
+}
+
+// The numbers of a question are kept for the whole run.
+typedef std::vector<uint16_t> Question;
+Query ask(const Question &numbers) {
+  static std::deque<Question> kept;
+  kept.push_back(numbers);
+  Query q = Query();
+  q.question = kept.back().data();
+  q.size = (uint32_t)numbers.size();
+  return q;
+}
+
+// Any term, or that of a random entry.
+uint32_t random_term(const Data &data, size_t turn) {
+  if (turn % 3 == 0) return below(data.lengths.size());
+  return (uint32_t)(std::upper_bound(data.starts.begin(), data.starts.end(), below(data.entries.size())) - data.starts.begin()) - 1;
+}
+
+// At most so many numbers with a reading, number by number: there is always room for what must follow, a word and the closing marks.
+Question random_question(const Data &data, size_t most, size_t turn) {
+  const uint32_t rare = turn % 2 ? 3 : 20;
+  Question q;
+  for (size_t open = 0, word_next = 1;;) {
+    size_t more = most - q.size() - open;
+    if (word_next) {
+      if (more >= 2 && below(rare) == 0) {
+        q.push_back(NOT);
+      } else if (more >= 3 && open < 8 && below(rare) == 0) {
+        q.push_back(OPENS);
+        open++;
+      } else {
+        q.push_back((uint16_t)random_term(data, turn));
+        word_next = 0;
+      }
+    } else if (open && (more < 2 || below(4) == 0)) {
+      q.push_back(CLOSES);
+      open--;
+    } else if (more < 2 || (open == 0 && below(40) == 0)) {
+      return q;
+    } else {
+      q.push_back(below(2) ? AND : OR);
+      word_next = 1;
+    }
+  }
+}
+
 Query random_query(const Data &data, Op op, size_t turn) {
   size_t n = data.entries.size();
+  if (op == BOOLEAN) return ask(random_question(data, turn % 4 ? 1 + below(64) : 64, turn));
   Query q = Query();
   q.k = turn % 5 == 0 ? data.documents : below(std::min<uint32_t>(data.documents, 120) + 1);
   q.allowance = NO_BOUND;
@@ -254,10 +321,7 @@ Query random_query(const Data &data, Op op, size_t turn) {
   // Any terms, those of random entries, and some again. What stands behind the terms is none.
   if (takes_terms(op)) {
     q.size = 1 + below(8);
-    for (size_t i = 0; i < 8; i++) {
-      size_t of_entry = (size_t)(std::upper_bound(data.starts.begin(), data.starts.end(), below(n)) - data.starts.begin()) - 1;
-      q.chosen[i] = i >= q.size ? NO_BOUND : i && below(6) == 0 ? q.chosen[below(i)] : (uint32_t)(turn % 3 ? of_entry : below(data.lengths.size()));
-    }
+    for (size_t i = 0; i < 8; i++) q.chosen[i] = i >= q.size ? NO_BOUND : i && below(6) == 0 ? q.chosen[below(i)] : random_term(data, turn);
     if (op == WEIGHTED && turn % 7 == 3) q.k = NO_BOUND;
   }
   if (op == QUANTILE || op == LIST || op == GREEDY || op == PROBING) {
@@ -303,13 +367,19 @@ void verify_bounded(const std::vector<Contender> &all, const Data &data, Op op, 
 }
 
 void verify_query(const std::vector<Contender> &all, const Data &data, Op op, const Query &q, size_t turn) {
-  Numbers right(2 * data.documents + 2), got(2 * data.documents + 2);
+  Numbers lent(2 * data.documents + 2, 0xa5a5a5a5), right = lent, got = lent;
   uint64_t expected = all[SCAN].ops[op](data.indexes[SCAN], q, right.data());
   for (size_t c = 1; c < all.size(); c++) {
     if (!all[c].ops[op]) continue;
     uint64_t r = all[c].ops[op](data.indexes[c], q, got.data());
     expect((uint32_t)r == (uint32_t)expected, all[c], NAMES[op]);
-    if (op >= LIST) expect(std::equal(right.begin(), right.begin() + 2 * (uint32_t)expected, got.begin()), all[c], NAMES[op]);
+    if (width(op)) expect(std::equal(right.begin(), right.begin() + (long)(width(op) * (uint32_t)expected), got.begin()), all[c], NAMES[op]);
+    if (op == BOOLEAN) expect(got == right, all[c], "rest of the answer slice");
+    got = lent;
+  }
+  if (op == BOOLEAN) {
+    Numbers full = matching_of(data, q);
+    expect(expected == full.size() && std::equal(full.begin(), full.end(), right.begin()), all[SCAN], NAMES[op]);
   }
   if (takes_terms(op)) {
     Sums sums = sums_of(data, op, q);
@@ -369,6 +439,18 @@ void verify_one(const std::vector<Contender> &all, size_t n, uint32_t documents,
   data.drop(all);
 }
 
+// Questions of the small library, whose terms have the documents 0 1 3, none, and 0 1 2 3.
+void verify_readings(const std::vector<Contender> &all, const Data &data) {
+  const struct { Question question; Numbers documents; } cases[] = {
+    {{2, AND, NOT, 0}, {2}}, {{2, AND, NOT, 0, OR, 1}, {2}}, {{NOT, 1}, {0, 1, 2, 3}}, {{NOT, 0}, {2}}, {{NOT, NOT, 0}, {0, 1, 3}},
+    {{0, OR, 2, AND, 1}, {0, 1, 3}}, {{OPENS, 0, OR, 2, CLOSES, AND, 1}, {}}, {{NOT, 0, OR, 0}, {0, 1, 2, 3}}, {{NOT, OPENS, 0, OR, 0, CLOSES}, {2}},
+  };
+  for (auto &one : cases) {
+    verify_query(all, data, BOOLEAN, ask(one.question), 0);
+    expect(matching_of(data, ask(one.question)) == one.documents, all[SCAN], "reading");
+  }
+}
+
 // The small library of docs/FORMAT.md, byte by byte.
 void verify_small(const std::vector<Contender> &all) {
   const uint8_t bytes[74] = {1, 0, 0, 0, 8, 0, 0, 0, 4, 0, 0, 0, 3, 0, 0, 0, 40, 0, 0, 0, 24, 0, 0, 0, 64, 0, 0, 0, 8, 0, 0, 0, 72, 0, 0, 0, 2,
@@ -376,6 +458,7 @@ void verify_small(const std::vector<Contender> &all) {
   Data data(all, {3, 1, 0, 3, 2, 1, 3, 0}, {3, 0, 5}, 4);
   for (size_t c = TIGHT; c < all.size(); c++)
     if (is_tree(all[c])) expect(((Archive *)data.indexes[c])->len == 74 && !memcmp(((Archive *)data.indexes[c])->bytes, bytes, 74), all[c], "small library");
+  verify_readings(all, data);
   for (size_t turn = 0; turn < 200; turn++)
     for (int op = ACCESS; op < OPS; op++) verify_op(all, data, (Op)op, turn);
   data.drop(all);
@@ -414,12 +497,12 @@ double at_part(std::vector<double> v, double part) {
 }
 double median(const std::vector<double> &v) { return at_part(v, 0.5); }
 
-uint64_t __attribute__((noinline)) batch(op_fn *f, void *index, const Query *q, size_t count, bool pairs, uint32_t *answers) {
+uint64_t __attribute__((noinline)) batch(op_fn *f, void *index, const Query *q, size_t count, size_t width, uint32_t *answers) {
   uint64_t sum = 0;
   for (size_t i = 0; i < count; i++) {
     uint32_t r = (uint32_t)f(index, q[i], answers);
     sum += r;
-    if (pairs && r) sum += answers[2 * r - 1] + 3 * (uint64_t)answers[r / 2 * 2];
+    if (width && r) sum += answers[width * r - 1] + 3 * (uint64_t)answers[r / 2 * width];
   }
   return sum;
 }
@@ -442,7 +525,7 @@ struct Cell {
 
   double one(size_t c, const Query *q, size_t size, uint64_t *sum) {
     double start = now();
-    *sum = batch(all[c].ops[op], indexes[c], q, size, op >= LIST, answers.data());
+    *sum = batch(all[c].ops[op], indexes[c], q, size, width(op), answers.data());
     return now() - start;
   }
 
@@ -545,9 +628,34 @@ Query typed_wet(Query q) {
   return q;
 }
 
+// So many words, no two equal as long as there are terms: of 16 terms each comes before one comes again.
+Question words_of(const Data &data, size_t size) {
+  Question terms(data.lengths.size()), words;
+  std::iota(terms.begin(), terms.end(), 0);
+  while (words.size() < size) {
+    size_t at = words.size() % terms.size();
+    std::swap(terms[at], terms[at + below(terms.size() - at)]);
+    words.push_back(terms[at]);
+  }
+  return words;
+}
+
+// Words with an and or an or between them, by chance. With not: it stands before every second word from a random one on, as far as 64 numbers go.
+Query boolean_query(const Data &data, size_t size, bool with_not) {
+  size_t nots = with_not ? std::min((size + 1) / 2, 64 - (2 * size - 1)) : 0, turn = below(size);
+  Question numbers;
+  for (uint16_t word : words_of(data, size)) {
+    if (!numbers.empty()) numbers.push_back(below(2) ? AND : OR);
+    if (turn % 2 == 0 && turn / 2 < nots) numbers.push_back(NOT);
+    numbers.push_back(word);
+    turn = (turn + 1) % size;
+  }
+  return ask(numbers);
+}
+
 // `of`: how many terms, or what else the name has. A batch has no fewer questions than `least`.
 template <class Make> void add(Set &set, const std::vector<Contender> &all, const char *filter, double seconds, Op op, int range, uint32_t k, const std::string &of, size_t least, Make make) {
-  const Data &data = range == MIXED ? *set.mixed : op == CONJUNCTION && range == 1 ? *set.volumes : *set.terms;
+  const Data &data = range == MIXED ? *set.mixed : (op == CONJUNCTION || op == BOOLEAN) && range == 1 ? *set.volumes : *set.terms;
   std::string name = NAMES[op] + of;
   if (range >= 0) name += std::string(" ") + RANGES[range];
   if (k) name += " k=" + std::to_string(k);
@@ -637,6 +745,18 @@ void add_cells(Set &set, const std::vector<Contender> &all, const char *filter, 
     }
   }
   repeated(WEIGHTED, MIXED, 10, mixed_query);
+  // The same words and marks with not and without. The seed is put back, as for repeated terms.
+  auto boolean = [&](int range, const std::string &of, auto make) {
+    uint64_t from = seed;
+    add(set, all, filter, seconds, BOOLEAN, range, 0, of, 4, make);
+    seed = from;
+  };
+  for (int range = 1; range < 3; range++)
+    for (size_t size : {1, 4, 32})
+      for (bool with_not : {false, true})
+        boolean(range, " of " + std::to_string(size) + (with_not ? " with not" : ""), [=](const Data &d) { return boolean_query(d, size, with_not); });
+  // All documents but one or two.
+  boolean(MIXED, " not rare", [](const Data &d) { return ask({NOT, (uint16_t)(d.lengths.size() - 1 - below(256))}); });
 }
 
 void print_set(const Set &set, const std::vector<Contender> &all) {

@@ -14,7 +14,7 @@ mkdir -p build
 (cd "$root" && rt staticlib masuvelior) >build/staticlib.log 2>&1 || { tail build/staticlib.log; exit 1; }
 objects=
 peer() { # NAME TIGHT FLAGS
-  for part in peer weighted; do
+  for part in peer weighted boolean; do
     $CXX $flags -DPEER="$1" -DTIGHT="$2" $3 -c $part.cpp -o "build/$1_$part.o"
     objects="$objects build/$1_$part.o"
   done
@@ -38,6 +38,7 @@ if [ -n "$BEFORE" ]; then
   objcopy --redefine-syms=build/before.names "$BEFORE" build/before.a
   $CXX $flags -DOURS=before -DCHECKED=0 $(awk '{ print "-D" $1 "=" $2 }' build/before.names) -c ours.cpp -o build/before.o
   objects="$objects build/before.o build/before.a"
+  grep -q "^masuvelior_boolean " build/before.names || before="$before -DBEFORE_WITHOUT_BOOLEAN"
 fi
 
 # sdsl, without and with the popcount instruction. The two share the names of templates: each becomes one object in which only its entry is seen.
@@ -47,7 +48,7 @@ if [ -f "$library" ]; then
   sdsl=-DSDSL
   for way in plain popcnt; do
     object=build/sdsl_$way.o
-    if [ ! "$object" -nt sdsl.cpp ] || [ ! "$object" -nt contender.h ] || [ ! "$object" -nt terms.h ]; then
+    if [ ! "$object" -nt sdsl.cpp ] || [ ! "$object" -nt contender.h ] || [ ! "$object" -nt terms.h ] || [ ! "$object" -nt question.h ]; then
       suffix=" nopop"
       more=
       [ $way = popcnt ] && suffix="" && more=-msse4.2

@@ -1,6 +1,7 @@
 // The plain scan: entries of 16 bits, counted in an array of N counters, or sorted where the range is short.
 // The other contenders are verified against it. Its top-k is one, under greedy and under probing.
 #include "contender.h"
+#include "question.h"
 #include "terms.h"
 #include <algorithm>
 #include <functional>
@@ -183,8 +184,22 @@ uint64_t weighted(void *p, const Query &q, uint32_t *answers) {
   }
   return k;
 }
+
+// A bitmap of each different word from its entries.
+uint64_t boolean(void *p, const Query &q, uint32_t *answers) {
+  Scan &x = *(Scan *)p;
+  Question question;
+  uint64_t bitmaps[32][64];
+  read_question(q.question, q.size, question);
+  for (size_t i = 0; i < question.words; i++) {
+    const uint16_t *a = x.entries.data() + x.starts[question.terms[i]], *b = x.entries.data() + x.starts[question.terms[i] + 1];
+    memset(bitmaps[i], 0, (x.documents + 63) / 64 * 8);
+    for (const uint16_t *e = a; e < b; e++) bitmaps[i][*e / 64] |= (uint64_t)1 << *e % 64;
+  }
+  return put_matching(question, bitmaps, x.documents, answers);
+}
 }
 
 Contender scan_contender() {
-  return {"scan", build, drop, bytes, {nullptr, nullptr, nullptr, access, rank, select, quantile, list, conjunction, top_k, top_k, weighted}};
+  return {"scan", build, drop, bytes, {nullptr, nullptr, nullptr, access, rank, select, quantile, list, conjunction, top_k, top_k, weighted, boolean}};
 }

@@ -1,6 +1,7 @@
 // sdsl-lite's wavelet trees: wt_int as it comes, and with rank_support_v5 and no select index, which has about the size of our rows and samples.
 // SDSL_ENTRY names the one function that the harness sees, SDSL_SUFFIX ends the contenders' names.
 #include "contender.h"
+#include "question.h"
 #include "terms.h"
 #include <algorithm>
 #include <sdsl/wavelet_trees.hpp>
@@ -147,8 +148,23 @@ template <class Tree> struct Peer {
     }
     return heap.size();
   }
+  // A bitmap of each different word from the symbols of its entries.
+  static uint64_t boolean(void *p, const Query &q, uint32_t *answers) {
+    Index &x = *(Index *)p;
+    Question question;
+    uint64_t bitmaps[32][64];
+    read_question(q.question, q.size, question);
+    for (size_t i = 0; i < question.words; i++) {
+      uint32_t a = x.starts[question.terms[i]], b = x.starts[question.terms[i] + 1];
+      typename Tree::size_type found = 0;
+      if (a != b) sdsl::interval_symbols(x.tree, a, b, found, x.symbols, x.below, x.upto);
+      std::fill(bitmaps[i], bitmaps[i] + 64, 0);
+      for (size_t s = 0; s < found; s++) bitmaps[i][x.symbols[s] / 64] |= (uint64_t)1 << x.symbols[s] % 64;
+    }
+    return put_matching(question, bitmaps, x.documents, answers);
+  }
   static Contender contender(const char *name) {
-    return {name, build, drop, bytes, {nullptr, nullptr, nullptr, access, rank, select, quantile, list, conjunction, greedy, probing}};
+    return {name, build, drop, bytes, {nullptr, nullptr, nullptr, access, rank, select, quantile, list, conjunction, greedy, probing, nullptr, boolean}};
   }
 };
 
