@@ -1,4 +1,4 @@
--- Laws of boolean.
+-- Laws of boolean, and the sentences of its request (`Demand`).
 pub mod Members
 pub mod Numbering
 pub mod Readable
@@ -6,3 +6,4 @@ pub mod Matched
 pub mod Renaming
 pub mod Filling
 pub mod Answered
+pub mod Demand

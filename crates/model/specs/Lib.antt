@@ -20,6 +20,7 @@ pub mod Frontier
 pub mod Demand2
 pub mod Demand3
 pub mod WeightedDemand
+pub mod BooleanDemand
 pub mod Cases
 pub mod WeightedCases
 pub mod DistinctCases
