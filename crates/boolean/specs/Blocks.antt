@@ -15,6 +15,12 @@ use Rattle.matching.specs.Sets.{holds, setsBy, setAt}
 use Rattle.bitmaps.specs.Words.{blockHeight}
 use Rattle.bitmaps.specs.Bitmaps.{termWord}
 
+-- before the first document of a set stand so many others
+pub record First (set before : ℕ) : Type 0 where
+  pub few : before < 64
+  pub there : holds set before ≡ true
+  pub none-before : (j : ℕ) → j < before → holds set j ≡ false
+
 -- the documents of a set of so many from `first` on
 abbrev pub members : ℕ → ℕ → ℕ → List ℕ
 members set first size = keep (λ d. holds set (d - first)) (upFrom first size)
