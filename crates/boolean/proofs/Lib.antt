@@ -4,6 +4,7 @@ pub mod Numbering
 pub mod Readable
 pub mod Matched
 pub mod Renaming
+pub mod Blanks
 pub mod Filling
 pub mod Answered
 pub mod Demand

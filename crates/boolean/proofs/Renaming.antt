@@ -26,8 +26,8 @@ use Rattle.matching.proofs.Sets.{holds-matches}
 use Rattle.bitmaps.specs.Words.{blockHeight}
 use Rattle.bitmaps.specs.Bitmaps.{termWord}
 use Rattle.bitmaps.proofs.Blocks.{block-fits, holds-block}
-use Rattle.boolean.specs.Words.{Numbered}
-use Rattle.boolean.specs.Blocks.{Filled, isRead, matched}
+use Rattle.boolean.specs.Words.{Names, Numbered, WordsBelow}
+use Rattle.boolean.specs.Blocks.{Filled, setBy, isRead, matched}
 use Rattle.boolean.proofs.Readable.{read-some}
 use Rattle.boolean.proofs.Matched.{keep-same, block-lt, blocks-most}
 
@@ -88,6 +88,22 @@ module _ (f g : ℕ → ℕ) where
   alike ns ms e few l s h =
       alike-by e ms (reading ms) refl (ap (Option·map (evaluate (setsBy f))) (sym h) ∙ sets-same ns ms few l s)
 
+-- a question whose words are below a number comes to the same, where each number below it stands for the same
+pub by-agreement : (f g : ℕ → ℕ) (size : ℕ) → ((t : ℕ) → t < size → f t ≡ g t) → (ns : List ℕ) → length ns ≤ 64 → WordsBelow size ns
+    → setBy f (reading ns) ≡ setBy g (reading ns)
+by-agreement f g size same ns few words =
+    setBy-is f (reading ns)
+    ∙ ap or-none (sets-same f g ns ns few refl (λ i l. same-token f g (getD ns i 0) (getD ns i 0) (λ w. (w, same (getD ns i 0) (words i l w))) (λ m. refl)))
+    ∙ sym (setBy-is g (reading ns))
+  where
+    or-none : Option ℕ → ℕ
+    or-none none = 0
+    or-none (some x) = x
+
+    setBy-is : (f : ℕ → ℕ) (o : Option Expression) → setBy f o ≡ or-none (Option·map (evaluate (setsBy f)) o)
+    setBy-is f none = refl
+    setBy-is f (some e) = refl
+
 -- ---- a numbered question
 
 module _ (lib : Library) (h : ℕ) (low : h ≤ 12) (question terms numbered masks : List ℕ) (size : ℕ) (few : length question ≤ 64)
@@ -95,7 +111,7 @@ module _ (lib : Library) (h : ℕ) (low : h ≤ 12) (question terms numbered mas
   abbrev named : List ℕ
   named = take (length question) numbered
 
-  named-length : length question ≡ length named
+  pub named-length : length question ≡ length named
   named-length = sym (length-take-le (length question) numbered (omega (arith, o .room .1)))
 
   -- in each block a word stands for the same set as its number
@@ -110,6 +126,17 @@ module _ (lib : Library) (h : ℕ) (low : h ≤ 12) (question terms numbered mas
       let p = n .of-word w in
       (omega (arith, p .0), sym (filled (getD numbered i 0) b (p .0) l ∙ ap (λ (t : ℕ). termWord lib h t b) (p .1))))
       (n .of-other))) r
+
+  -- its words are numbers of terms
+  pub named-below : WordsBelow size named
+  named-below i l w =
+      let m : i < length question = omega (arith, named-length, l) in
+      let e = getD-take (length question) numbered i 0 m in
+      rw e (go i (o .named i m) (decLe 4096 (getD question i 0)) (rw e at w))
+    where
+      go : (i : ℕ) → Names terms size (getD question i 0) (getD numbered i 0) → Dec (4096 ≤ getD question i 0) → getD numbered i 0 < 4096 → getD numbered i 0 < size
+      go i n (yes p) w = absurd (omega (arith, n .of-other p))
+      go i n (no p) w = n .of-word (omega arith) .0
 
   -- so it has a reading too
   pub named-read : (e : Expression) → reading question ≡ some e → isRead (reading named) ≡ true

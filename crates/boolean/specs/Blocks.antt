@@ -34,6 +34,15 @@ abbrev pub Filled : Library → ℕ → List ℕ → ℕ → List ℕ → Type 0
 Filled lib h terms size masks =
     (i b : ℕ) → i < size → b < 2 ^ (h - blockHeight h) → getD masks (64 * i + b) 0 ≡ termWord lib h (getD terms i 0) b
 
+-- none of the first terms has a document in a block
+abbrev pub Blank : List ℕ → ℕ → ℕ → Type 0
+Blank masks terms block = (i : ℕ) → i < terms → setAt masks block i ≡ 0
+
+-- the set of a reading, by the set of each term; of none where there is none
+abbrev pub setBy : (ℕ → ℕ) → Option Expression → ℕ
+setBy setOf none = 0
+setBy setOf (some e) = evaluate (setsBy setOf) e
+
 abbrev pub isRead : Option Expression → Bool
 isRead none = false
 isRead (some e) = true

@@ -29,3 +29,7 @@ pub record Numbered (question : List ℕ) (to : ℕ) (terms : List ℕ) (size : 
   pub few : size ≤ length (wordsIn (take to question))
   pub named : (i : ℕ) → i < to → Names terms size (getD question i 0) (getD numbered i 0)
   pub taken : (k : ℕ) → k < size → Taken question to (getD terms k 0)
+
+-- the words of a question are below a number
+abbrev pub WordsBelow : ℕ → List ℕ → Type 0
+WordsBelow size question = (i : ℕ) → i < length question → getD question i 0 < 4096 → getD question i 0 < size

@@ -6,13 +6,15 @@ use matching::Matching;
 use matching::matching_set;
 ghost use mathlib.Core.Path.{_≡_};
 ghost use mathlib.Core.Bool.{true};
-ghost use Prim.Native.Nat.{_^_, _≤_, min};
+ghost use Prim.Native.Nat.{_*_, _^_, _≤_, _<_, min};
 ghost use lib.ListN.{length};
 ghost use lib.Seq.{sets};
 ghost use Rattle.model.specs.Opening.{contents};
 ghost use Rattle.model.specs.Reading.{reading};
 ghost use Rattle.archive.specs.Layout.{Opened};
-ghost use Rattle.boolean.specs.Blocks.{Below, Filled, isRead, matched};
+ghost use Rattle.matching.specs.Sets.{setAt};
+ghost use Rattle.boolean.specs.Words.{WordsBelow};
+ghost use Rattle.boolean.specs.Blocks.{Below, Filled, Blank, setBy, isRead, matched};
 
 // The bitmaps of the first `size` terms, 64 masks each.
 pub fn put_bitmaps(archive: &[u8], l: Layout, terms: &[u16], size: usize, masks: &mut [u64])
@@ -42,21 +44,65 @@ fn least(x: usize, y: usize) -> usize
     if x < y { x } else { y }
 }
 
-// The documents that match a question with a reading, by the masks of its words, in the front of the answers; how many.
-pub fn put_matching(question: &[u16], masks: &[u64], l: Layout, answers: &mut [u32]) -> usize
+// Whether none of the first terms has a document in a block.
+fn is_blank(masks: &[u64], terms: usize, block: usize) -> bool
+    requires { ⌜ (64 * terms ≤ length (now masks)) × (terms ≤ 32) × (block < 64) ⌝ }
+    ensures { λ r. ⌜ (r ≡ true → Blank (now (masks .entry)) terms block) ⌝ }
+{
+    let mut i: usize = 0;
+    while i < terms {
+        if 0 < masks[64 * i + block] {
+            return false;
+        }
+        i += 1;
+    }
+    true
+}
+
+// The documents of a block that match; none where the question has no reading.
+fn set_in(question: &[u16], masks: &[u64], block: usize) -> u64
+    requires { ⌜ block < 64 ⌝ }
+    ensures { λ r. ⌜ r ≡ setBy (setAt (now (masks .entry)) block) (reading (now (question .entry))) ⌝ }
+{
+    match matching_set(question, masks, block) {
+        Matching::Documents(set) => set,
+        Matching::NoReading => 0,
+    }
+}
+
+// The same, where `blank` is what a block without a document of any term comes to: such a block need not be read.
+fn set_of(question: &[u16], masks: &[u64], terms: usize, block: usize, blank: u64) -> u64
+    requires { ⌜ (64 * terms ≤ length (now masks)) × (terms ≤ 32) × (block < 64) × (length (now question) ≤ 64) ⌝ }
+    requires { ⌜ WordsBelow terms (now question) × (blank ≡ setBy (λ _. 0) (reading (now question))) ⌝ }
+    ensures { λ r. ⌜ r ≡ setBy (setAt (now (masks .entry)) block) (reading (now (question .entry))) ⌝ }
+{
+    if is_blank(masks, terms, block) {
+        return blank;
+    }
+    set_in(question, masks, block)
+}
+
+// The documents that match a question with a reading, by the masks of its words, in the front of the answers; how many. The words are numbers of terms.
+pub fn put_matching(
+    question: &[u16],
+    masks: &[u64],
+    terms: usize,
+    l: Layout,
+    answers: &mut [u32],
+) -> usize
     requires { ⌜ (l .levels .height ≤ 12) × (l .documents ≤ 2 ^ l .levels .height) × (l .documents ≤ length (now answers)) ⌝ }
+    requires { ⌜ (64 * terms ≤ length (now masks)) × (terms ≤ 32) × (length (now question) ≤ 64) × WordsBelow terms (now question) ⌝ }
     requires { ⌜ isRead (reading (now question)) ≡ true ⌝ }
     ensures { λ r. ⌜ (r ≡ length (matched (now (masks .entry)) (reading (now (question .entry))) (l .levels .height) (l .documents)))
         × (now (answers .exit) ≡ sets (now (answers .entry)) 0 (matched (now (masks .entry)) (reading (now (question .entry))) (l .levels .height) (l .documents))) ⌝ }
 {
     let size = block_size(l.levels.height);
+    let blank = set_in(question, &[0u64; 1], 0);
     let mut found: usize = 0;
     let mut block: usize = 0;
     let mut first: usize = 0;
     while first < l.documents {
-        let Matching::Documents(set) = matching_set(question, masks, block) else {
-            return found;
-        };
+        let set = set_of(question, masks, terms, block, blank);
         let some = least(size, l.documents - first);
         found = put_documents(set, first, some, found, answers);
         block += 1;

@@ -45,7 +45,7 @@ pub fn boolean_in(archive: &[u8], l: Layout, question: &[u16], answers: &mut [u3
     let size = number_words(question, &mut terms, &mut numbered);
     put_bitmaps(archive, l, &terms, size, &mut masks);
     let n = question.len();
-    put_matching(&numbered[..n], &masks, l, answers)
+    put_matching(&numbered[..n], &masks, size, l, answers)
 }
 
 pub fn boolean_opened(archive: &[u8], l: Layout, question: &[u16], answers: &mut [u32]) -> Answer

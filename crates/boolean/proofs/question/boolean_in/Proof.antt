@@ -10,7 +10,7 @@ use Rattle.model.specs.Reading.{reading}
 use Rattle.archive.proofs.Opened.{stored, documents-fit, documents-are}
 use Rattle.boolean.specs.Blocks.{matched}
 use Rattle.boolean.proofs.Readable.{read-some}
-use Rattle.boolean.proofs.Renaming.{named-read, matched-are}
+use Rattle.boolean.proofs.Renaming.{named-length, named-below, named-read, matched-are}
 use Rattle.boolean.proofs.Answered.{read-few, read-words, words-few, terms-known, found-front}
 use Rattle.boolean.proofs.question.boolean_in.Statement.{statement}
 use Rattle.boolean.proofs.question.boolean_in.Tie as tie
@@ -66,7 +66,14 @@ put-matching-requires c κs =
     let read = named-read (contents (g .archive .now)) (g .l .levels .height) (stored (g .archive .now) (g .l) o .low) (g .question .now) (n .last .1 .0) (n .last .1 .1 .0)
     (c .before .before .before .before .put-bitmaps .last .1 .1 .1 .1 .0) (n .result) (read-few (g .question .now) (s .pre .1 .0)) (n .ensures) (words-few (g .question .now) (s .pre .1 .0) (n .ensures))
     (c .before .before .before .before .put-bitmaps .ensures) (x .0) (x .1) in
-    ((stored (g .archive .now) (g .l) o .low, documents-fit (g .archive .now) (g .l) o, s .pre .1 .2), read)
+    let low = stored (g .archive .now) (g .l) o .low in
+    let few = read-few (g .question .now) (s .pre .1 .0) in
+    let small = words-few (g .question .now) (s .pre .1 .0) (n .ensures) in
+    let below = named-below (contents (g .archive .now)) (g .l .levels .height) low (g .question .now) (n .last .1 .0) (n .last .1 .1 .0)
+    (c .before .before .before .before .put-bitmaps .last .1 .1 .1 .1 .0) (n .result) few (n .ensures) small (c .before .before .before .before .put-bitmaps .ensures) in
+    let same = named-length (contents (g .archive .now)) (g .l .levels .height) low (g .question .now) (n .last .1 .0) (n .last .1 .1 .0)
+    (c .before .before .before .before .put-bitmaps .last .1 .1 .1 .1 .0) (n .result) few (n .ensures) small (c .before .before .before .before .put-bitmaps .ensures) in
+    ((low, documents-fit (g .archive .now) (g .l) o, s .pre .1 .2), ((omega (arith, small), small, omega (arith, same, few), below), read))
 
 same-length : tie.Need-same-length
 same-length c =
@@ -89,7 +96,7 @@ returns c =
     (g .l .documents) (documents-fit (g .archive .now) (g .l) o) (documents-are (g .archive .now) (g .l) o) (x .0) (x .1) in
     let room : contents (g .archive .now) .documents ≤ length (g .answers .now) = omega (arith, s .pre .1 .2, documents-are (g .archive .now) (g .l) o) in
     found-front (contents (g .archive .now)) (reading (g .question .now)) (x .0)
-    (matched (c .before .before .before .before .before .before .before .put-bitmaps .last .1 .1 .1 .1 .0) (reading (take (length (g .question .now)) (c .before .before .before .before .before .before .before .before .before .before .before .before .number-words .last .1 .1 .0))) (g .l .levels .height) (g .l .documents)) (g .answers .now) (m .last .1 .1 .1 .0) (m .result) (x .1) same room (m .ensures .0) (m .ensures .1)
+    (matched (c .before .before .before .before .before .before .before .put-bitmaps .last .1 .1 .1 .1 .0) (reading (take (length (g .question .now)) (c .before .before .before .before .before .before .before .before .before .before .before .before .number-words .last .1 .1 .0))) (g .l .levels .height) (g .l .documents)) (g .answers .now) (m .last .1 .1 .1 .1 .0) (m .result) (x .1) same room (m .ensures .0) (m .ensures .1)
 
 pub boolean-in-spec : {M : Type 1} → statement M
 boolean-in-spec =
