@@ -195,8 +195,8 @@ uint32_t masuvelior_conjunction(const uint8_t *archive, size_t archive_length, c
  * deep, for which 'not' does not count. So 7 AND NOT 8 OR 9 is (7 and (not 8)) or 9.
  * 18, before 11 and 12: a question that is empty, too long, too deep or has no reading; a number that is neither a term nor a mark leaves it
  * without one. 11: a term W or more, up to 4,095. 12: answers under N numbers. 10 is never given.
- * Cost: the question is read once, and once again for each 64 of the N documents; for each different term, up to 4 ranks for each node of the tree
- * with an entry of the term in it: at most h for each document of the term. */
+ * Cost: the question is read twice, and once more for each 64 of the N documents among which a term has one; for each different term, up to 4
+ * ranks for each node of the tree with an entry of the term in it: at most h for each document of the term. */
 MASUVELIOR_MUST_USE
 uint32_t masuvelior_boolean(const uint8_t *archive, size_t archive_length, const uint16_t *question, size_t question_length,
                             uint32_t *answers, size_t answers_length, uint32_t *listed);

@@ -11,8 +11,8 @@ impl Archive<'_> {
     /// may be repeated. 'Not' binds tightest, then 'and', then 'or'; equal ones group to the left; brackets nest at most eight deep, for
     /// which 'not' does not count. [`Expr`](crate::Expr) writes such questions.
     ///
-    /// Cost: the question is read once, and once again for each 64 of the N documents; for each different term, up to 4 ranks for each node
-    /// of the tree with an entry of the term in it, at most h for each document of the term.
+    /// Cost: the question is read twice, and once more for each 64 of the N documents among which a term has one; for each different term, up
+    /// to 4 ranks for each node of the tree with an entry of the term in it, at most h for each document of the term.
     ///
     /// ```
     /// use masuvelior::marks::{AND, CLOSE, NOT, OPEN, OR};
