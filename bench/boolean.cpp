@@ -5,16 +5,7 @@
 namespace {
 // The document of the entry at place p of node q of level j, which spans start to end. In the last row its bit is enough.
 INLINE u32 document_at(const Levels &t, u32 j, u32 q, u32 start, u32 end, u32 p) {
-  for (; j + 1 < t.height; j++) {
-    Row r = row_of(t, j);
-    u32 one = bit(r, p), before = rank1(r, start), at = rank1_from(r, start, before, p), all = rank1_from(r, p, at, end);
-    u32 middle = end - (all - before);
-    at -= before;
-    p = pick(one, middle + at, p - at);
-    start = pick(one, middle, start);
-    end = pick(one, end, middle);
-    q = 2 * q + one;
-  }
+  for (; j + 1 < t.height; j++) follow(t, j, q, start, end, p);
   return 2 * q + bit(row_of(t, j), p);
 }
 

@@ -159,6 +159,18 @@ INLINE Span half(const Halves &h, u32 one) {
   return {pick(one, h.high.start, h.low.start), pick(one, h.high.lo, h.low.lo), pick(one, h.high.hi, h.low.hi), pick(one, h.high.end, h.low.end)};
 }
 
+// Follows place p of the node q of level j, which spans start to end, to its half.
+INLINE void follow(const Levels &t, u32 j, u32 &q, u32 &start, u32 &end, u32 &p) {
+  Row r = row_of(t, j);
+  u32 one = bit(r, p), before = rank1(r, start), at = rank1_from(r, start, before, p), all = rank1_from(r, p, at, end);
+  u32 middle = end - (all - before);
+  at -= before;
+  p = pick(one, middle + at, p - at);
+  start = pick(one, middle, start);
+  end = pick(one, end, middle);
+  q = 2 * q + one;
+}
+
 // A queue of waiting nodes as a binary heap, the largest key first.
 template <class Waiting> INLINE void push(Waiting *queue, u32 &size, Waiting w) {
   u32 i = size++;
