@@ -1,129 +1,20 @@
--- Worked cases of questions with and, or, not, document 02, M-104, proved on the definitions: readings, answers of the small library, the refusals and their
--- order, lent slices one number short, just long enough and longer, and the ends of the limits.
+-- Worked cases of questions with and, or, not, document 02, M-104, proved on the definitions: answers of the small library, the refusals and their order,
+-- lent slices one number short, just long enough and longer, and libraries of five documents and of more than 64. `ReadingCases` has the readings.
 use Prim.Native.Nat.{ℕ, _-_}
 use mathlib.Core.Path.{_≡_, refl}
 use mathlib.Core.List.{List, [], _∷_, _++_, map}
-use mathlib.Core.Option.{Option, none, some}
 use lib.ListN.{length, replicate, drop}
+use Rattle.bits.specs.Sequences.{below}
 use Rattle.bits.specs.Bits.{bitsOf, pack, samplesOf, samplesRight, unusedClear}
 use Rattle.model.specs.Outcome.{answered, refused}
 use Rattle.model.specs.Format.{library, encode}
 use Rattle.model.specs.Opening.{entriesAt, opening}
 use Rattle.model.specs.Queries.{PairsResult}
-use Rattle.model.specs.Grammar.{Expression, term, complement, both, either}
-use Rattle.model.specs.Reading.{reading}
 use Rattle.model.specs.Boolean.{booleanResult}
 use Rattle.model.specs.Cases.{smallArchive, nines}
+use Rattle.model.specs.ReadingCases.{AND, OR, NOT, OPEN, CLOSE, nested}
 
--- ---- the marks
-
-abbrev AND : ℕ
-AND = 60000
-
-abbrev OR : ℕ
-OR = 60001
-
-abbrev NOT : ℕ
-NOT = 60002
-
-abbrev OPEN : ℕ
-OPEN = 60003
-
-abbrev CLOSE : ℕ
-CLOSE = 60004
-
--- so many brackets around a question
-abbrev nested : ℕ → List ℕ → List ℕ
-nested depth inside = replicate depth OPEN ++ inside ++ replicate depth CLOSE
-
--- ---- readings
-
-abbrev read : List (List ℕ)
-read =
-    (7 ∷ AND ∷ NOT ∷ 8 ∷ OR ∷ 9 ∷ [])
-    ∷ (1 ∷ OR ∷ 2 ∷ OR ∷ 3 ∷ AND ∷ 4 ∷ AND ∷ 5 ∷ [])
-    ∷ (1 ∷ AND ∷ 2 ∷ OR ∷ 3 ∷ AND ∷ 4 ∷ [])
-    ∷ (1 ∷ OR ∷ OPEN ∷ 2 ∷ OR ∷ 3 ∷ CLOSE ∷ AND ∷ 4 ∷ [])
-    ∷ (1 ∷ AND ∷ OPEN ∷ 2 ∷ AND ∷ 3 ∷ CLOSE ∷ [])
-    ∷ (NOT ∷ NOT ∷ OPEN ∷ 1 ∷ OR ∷ 2 ∷ CLOSE ∷ AND ∷ 3 ∷ [])
-    ∷ (NOT ∷ 1 ∷ OR ∷ 2 ∷ AND ∷ NOT ∷ NOT ∷ 3 ∷ [])
-    ∷ (0 ∷ [])
-    ∷ (4095 ∷ [])
-    ∷ nested 8 (1 ∷ [])
-    ∷ (nested 8 (1 ∷ []) ++ OR ∷ nested 8 (2 ∷ []))
-    ∷ []
-
--- 'wreck and not removed or obstruction' first
-pub read-as : map reading read
-    ≡ some (either (both (term 7) (complement (term 8))) (term 9))
-    ∷ some (either (either (term 1) (term 2)) (both (both (term 3) (term 4)) (term 5)))
-    ∷ some (either (both (term 1) (term 2)) (both (term 3) (term 4)))
-    ∷ some (either (term 1) (both (either (term 2) (term 3)) (term 4)))
-    ∷ some (both (term 1) (both (term 2) (term 3)))
-    ∷ some (both (complement (complement (either (term 1) (term 2)))) (term 3))
-    ∷ some (either (complement (term 1)) (both (term 2) (complement (complement (term 3)))))
-    ∷ some (term 0)
-    ∷ some (term 4095)
-    ∷ some (term 1)
-    ∷ some (either (term 1) (term 2))
-    ∷ []
-read-as = refl
-
--- no reading: empty, words and marks where none may stand, brackets that do not match, numbers that are neither word nor mark, nine deep
-abbrev unread : List (List ℕ)
-unread =
-    []
-    ∷ (0 ∷ 0 ∷ [])
-    ∷ (0 ∷ AND ∷ [])
-    ∷ (AND ∷ 0 ∷ [])
-    ∷ (0 ∷ OR ∷ [])
-    ∷ (OR ∷ 0 ∷ [])
-    ∷ (0 ∷ AND ∷ OR ∷ 0 ∷ [])
-    ∷ (NOT ∷ [])
-    ∷ (0 ∷ NOT ∷ [])
-    ∷ (0 ∷ NOT ∷ 0 ∷ [])
-    ∷ (NOT ∷ AND ∷ 0 ∷ [])
-    ∷ (OPEN ∷ CLOSE ∷ [])
-    ∷ (OPEN ∷ 0 ∷ [])
-    ∷ (0 ∷ CLOSE ∷ [])
-    ∷ (OPEN ∷ 0 ∷ CLOSE ∷ CLOSE ∷ [])
-    ∷ (OPEN ∷ OPEN ∷ 0 ∷ CLOSE ∷ [])
-    ∷ (CLOSE ∷ 0 ∷ OPEN ∷ [])
-    ∷ (CLOSE ∷ 0 ∷ [])
-    ∷ (0 ∷ AND ∷ CLOSE ∷ 0 ∷ [])
-    ∷ (0 ∷ OPEN ∷ [])
-    ∷ (0 ∷ OPEN ∷ 0 ∷ CLOSE ∷ [])
-    ∷ (OPEN ∷ 0 ∷ CLOSE ∷ 0 ∷ [])
-    ∷ (OPEN ∷ 0 ∷ AND ∷ CLOSE ∷ [])
-    ∷ (4096 ∷ [])
-    ∷ (59999 ∷ [])
-    ∷ (60005 ∷ [])
-    ∷ (65535 ∷ [])
-    ∷ (4096 ∷ 0 ∷ [])
-    ∷ (0 ∷ 4096 ∷ [])
-    ∷ (NOT ∷ 4096 ∷ 0 ∷ [])
-    ∷ (0 ∷ 59999 ∷ 0 ∷ [])
-    ∷ (0 ∷ 60005 ∷ 0 ∷ [])
-    ∷ (0 ∷ AND ∷ 4096 ∷ [])
-    ∷ nested 9 (1 ∷ [])
-    ∷ (0 ∷ AND ∷ nested 9 (1 ∷ []))
-    ∷ (nested 8 (1 ∷ OR ∷ nested 1 (2 ∷ [])))
-    ∷ []
-
-pub unread-all : map reading unread ≡ replicate (length unread) none
-unread-all = refl
-
--- 64 numbers may be read, 65 not, whatever they are: 'not' may be repeated, and does not count as a bracket
-abbrev long : List (Option Expression)
-long =
-    reading (replicate 64 NOT ++ 0 ∷ [])
-    ∷ reading (0 ∷ AND ∷ replicate 60 NOT ++ OPEN ∷ 0 ∷ CLOSE ∷ [])
-    ∷ []
-
-pub too-long : (long ≡ none ∷ none ∷ []) × (reading (replicate 3 NOT ++ nested 8 (replicate 44 NOT ++ 0 ∷ [])) ≡ reading (replicate 47 NOT ++ 0 ∷ []))
-too-long = (refl, refl)
-
--- ---- answers: what a question comes to, and what it is to come to; the lent slice is so many nines
+-- what a question comes to, and what it is to come to; the lent slice is so many nines
 
 abbrev asked : List ℕ → ℕ → PairsResult
 asked question answers = booleanResult smallArchive question (nines answers)
@@ -162,11 +53,27 @@ pub small-cases : map (λ question. asked question 4)
 unfolding bitsOf samplesRight unusedClear entriesAt opening
 small-cases = refl
 
+-- nine words, of which the last is given
+abbrev nine : ℕ → List ℕ
+nine last = 0 ∷ OR ∷ 0 ∷ OR ∷ 0 ∷ OR ∷ 0 ∷ OR ∷ 0 ∷ OR ∷ 0 ∷ OR ∷ 0 ∷ OR ∷ 0 ∷ OR ∷ last ∷ []
+
+-- a document with two entries under a word; both sides of 'or', and more on the right of 'and'; more than eight words, which is no 10
+pub small-further : map (λ question. asked question 4) ((2 ∷ []) ∷ (0 ∷ OR ∷ 2 ∷ []) ∷ (0 ∷ AND ∷ 2 ∷ []) ∷ nine 1 ∷ [])
+    ≡ map (λ documents. gives documents 4) ((0 ∷ 1 ∷ 2 ∷ 3 ∷ []) ∷ (0 ∷ 1 ∷ 2 ∷ 3 ∷ []) ∷ (0 ∷ 1 ∷ 3 ∷ []) ∷ (0 ∷ 1 ∷ 3 ∷ []) ∷ [])
+unfolding bitsOf samplesRight unusedClear entriesAt opening
+small-further = refl
+
 -- a slice of N numbers is enough, and what stands behind the answer stays
 pub rooms : asked (0 ∷ []) 9 ∷ asked (0 ∷ []) 4 ∷ asked (1 ∷ []) 3 ∷ []
     ≡ gives (0 ∷ 1 ∷ 3 ∷ []) 9 ∷ gives (0 ∷ 1 ∷ 3 ∷ []) 4 ∷ refuses 12 3 ∷ []
 unfolding bitsOf samplesRight unusedClear entriesAt opening
 rooms = refl
+
+-- a lent slice whose numbers differ: what stands behind the answer stays in its place, and all of it where refused
+pub slices : booleanResult smallArchive (0 ∷ []) (5 ∷ 6 ∷ 7 ∷ 8 ∷ 4 ∷ []) ∷ booleanResult smallArchive (3 ∷ []) (5 ∷ 6 ∷ 7 ∷ 8 ∷ []) ∷ []
+    ≡ record { outcome = answered 3; answers = 0 ∷ 1 ∷ 3 ∷ 8 ∷ 4 ∷ [] } ∷ record { outcome = refused 11; answers = 5 ∷ 6 ∷ 7 ∷ 8 ∷ [] } ∷ []
+unfolding bitsOf samplesRight unusedClear entriesAt opening
+slices = refl
 
 -- 18, and 18 before 11 and 12; a word of W or more is 11, before 12; marks are no words
 pub refusals : asked [] 4
@@ -202,6 +109,30 @@ pub refusals : asked [] 4
 unfolding bitsOf samplesRight unusedClear entriesAt opening
 refusals = refl
 
+-- 11 by any of the words; each cause of 18 before 11 and 12, and after the archive's checks
+pub refusals-further : asked (3 ∷ OR ∷ 3 ∷ OR ∷ 0 ∷ []) 4
+    ∷ asked (nine 3) 4
+    ∷ asked [] 3
+    ∷ asked (replicate 64 NOT ++ 3 ∷ []) 3
+    ∷ asked (nested 9 (3 ∷ [])) 3
+    ∷ asked (4096 ∷ 3 ∷ []) 3
+    ∷ booleanResult [] (replicate 64 NOT ++ 0 ∷ []) (nines 4)
+    ∷ booleanResult [] (nested 9 (0 ∷ [])) (nines 4)
+    ∷ booleanResult [] (4096 ∷ []) (nines 4)
+    ∷ []
+    ≡ refuses 11 4
+    ∷ refuses 11 4
+    ∷ refuses 18 3
+    ∷ refuses 18 3
+    ∷ refuses 18 3
+    ∷ refuses 18 3
+    ∷ refuses 1 4
+    ∷ refuses 1 4
+    ∷ refuses 1 4
+    ∷ []
+unfolding bitsOf samplesRight unusedClear entriesAt opening
+refusals-further = refl
+
 -- the archive's own refusals come first: of 73 bytes
 pub archive-first : booleanResult (drop 1 smallArchive) [] [] ∷ booleanResult [] (0 ∷ 0 ∷ []) (nines 4) ∷ []
     ≡ refuses 2 0 ∷ refuses 1 4 ∷ []
@@ -216,3 +147,12 @@ pub of-five : booleanResult five (NOT ∷ 0 ∷ []) (nines 6) ∷ booleanResult 
     ≡ gives (1 ∷ 3 ∷ 4 ∷ []) 6 ∷ gives (1 ∷ 3 ∷ []) 5 ∷ refuses 12 4 ∷ []
 unfolding encode bitsOf pack samplesOf samplesRight unusedClear entriesAt opening
 of-five = refl
+
+-- more than 64 documents, the last of them alone entered
+abbrev many : List ℕ
+many = encode (library 66 (1 ∷ []) (65 ∷ []))
+
+pub of-many : booleanResult many (NOT ∷ 0 ∷ []) (nines 67) ∷ booleanResult many (0 ∷ []) (nines 66) ∷ booleanResult many (0 ∷ []) (nines 65) ∷ []
+    ≡ gives (below 65) 67 ∷ gives (65 ∷ []) 66 ∷ refuses 12 65 ∷ []
+unfolding encode bitsOf pack samplesOf samplesRight unusedClear entriesAt opening
+of-many = refl

@@ -26,4 +26,5 @@ pub mod WeightedCases
 pub mod DistinctCases
 pub mod PlaceCases
 pub mod HalvingCases
+pub mod ReadingCases
 pub mod BooleanCases
