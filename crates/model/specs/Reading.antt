@@ -1,5 +1,5 @@
--- The reading of a question with and, or, not, computed number by number. Document 02, M-104. That it is the grammar's only reading, where there is one,
--- is `found-exactly` in proofs/Boolean.
+-- The reading of a question with and, or, not, computed number by number. Document 02, M-104. That it is the grammar's only reading, and is found just
+-- where there is one, is `found`, `found-reads` and `only` in proofs/Boolean/Theorem.
 use Prim.Native.Nat.{ℕ, zero, suc}
 use mathlib.Core.List.{List, [], _∷_, map}
 use mathlib.Core.Option.{Option, none, some}
