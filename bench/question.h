@@ -66,13 +66,35 @@ inline uint64_t matching(const Question &q, const uint64_t (*bitmaps)[64], size_
   return set;
 }
 
-// The matching documents, ascending; how many.
+// Whether no word has a document in a block.
+inline bool is_blank(const Question &q, const uint64_t (*bitmaps)[64], size_t block) {
+  for (uint32_t i = 0; i < q.words; i++)
+    if (bitmaps[i][block]) return false;
+  return true;
+}
+
+// The matching documents, ascending; how many. What a block without a document of any word comes to is found once; eight documents that all match are
+// written at once.
 inline size_t put_matching(const Question &q, const uint64_t (*bitmaps)[64], size_t documents, uint32_t *answers) {
+  static const uint64_t none[32][64] = {};
+  uint64_t blank = matching(q, none, 0);
   size_t found = 0;
   for (size_t first = 0; first < documents; first += 64) {
-    uint64_t set = matching(q, bitmaps, first / 64);
+    uint64_t set = is_blank(q, bitmaps, first / 64) ? blank : matching(q, bitmaps, first / 64);
     if (documents - first < 64) set &= ((uint64_t)1 << (documents - first)) - 1;
-    for (; set; set &= set - 1) answers[found++] = (uint32_t)(first + (size_t)__builtin_ctzll(set));
+    for (uint32_t d = (uint32_t)first; set;) {
+      if ((set & 255) == 255) {
+        for (uint32_t k = 0; k < 8; k++) answers[found + k] = d + k;
+        found += 8;
+        d += 8;
+        set >>= 8;
+      } else {
+        uint32_t zeros = (uint32_t)__builtin_ctzll(set);
+        answers[found++] = d + zeros;
+        d += zeros + 1;
+        set = set >> zeros >> 1;
+      }
+    }
   }
   return found;
 }
