@@ -8,6 +8,7 @@ pub mod Wavelet
 pub mod Format
 pub mod Sorting
 pub mod Distinct
+pub mod Rate
 pub mod Priority
 pub mod Ranking
 pub mod Pairs

@@ -6,6 +6,7 @@ pub mod Walk
 pub mod Format
 pub mod Opening
 pub mod Distinct
+pub mod Rate
 pub mod Queries
 pub mod Papers
 pub mod TopK
