@@ -35,10 +35,10 @@
 /* The edition of the archive's format, and the version of this interface: the minor number rises where functions are added, the major one
  * where a function's parameters or answers change. From 2.0 on a repeated term counts once (masuvelior_conjunction, masuvelior_weighted);
  * before, it counted each time. From 3.0 on masuvelior_select answers n where a document has fewer than j entries; before, UINT32_MAX. 3.1
- * added questions with and, or, not (masuvelior_boolean). */
+ * added questions with and, or, not (masuvelior_boolean). From 4.0 on masuvelior_per_mille rounds to the nearest; before, down. */
 #define MASUVELIOR_EDITION 1
-#define MASUVELIOR_VERSION_MAJOR 3
-#define MASUVELIOR_VERSION_MINOR 1
+#define MASUVELIOR_VERSION_MAJOR 4
+#define MASUVELIOR_VERSION_MINOR 0
 
 /* The limits: n is 0 to MASUVELIOR_MAX_ENTRIES, N and W are 1 to theirs, a conjunction or a weighted search is given 1 to
  * MASUVELIOR_MAX_CHOSEN terms, and a question with and, or, not has 1 to MASUVELIOR_MAX_QUESTION numbers and at most
@@ -207,7 +207,8 @@ MASUVELIOR_MUST_USE
 uint32_t masuvelior_range_of_terms(const uint8_t *archive, size_t archive_length, uint32_t first, uint32_t last,
                                    uint32_t *from, uint32_t *to);
 
-/* count * 1,000 / size, rounded down; takes no archive. 11: size 0, count above size. Cost: one division. */
+/* count * 1,000 / size to the nearest whole number, and an exact half to the even one: 3 of 16, which is 187 and a half, is 188. So it is 0
+ * to 1,000; 0 does not say that count is 0, nor 1,000 that it is size. Takes no archive. 11: size 0, count above size. Cost: one division. */
 MASUVELIOR_MUST_USE
 uint32_t masuvelior_per_mille(uint32_t count, uint32_t size, uint32_t *rate);
 

@@ -3,10 +3,17 @@ use crate::argument::Argument;
 use crate::refusal::{outcome, Refusal};
 use crate::sys;
 
-/// `count` × 1,000 / `size`, rounded down. Cost: one division.
+/// `count` × 1,000 / `size` to the nearest whole number, an exact half to the even one. Cost: one division.
+///
+/// So it is 0 to 1,000; 0 does not say that `count` is 0, nor 1,000 that it is `size`.
 ///
 /// ```
-/// assert_eq!(masuvelior::per_mille(3, 16), Ok(187));
+/// use masuvelior::per_mille;
+///
+/// assert_eq!(per_mille(3, 16), Ok(188)); // 187 and a half
+/// assert_eq!(per_mille(5, 2_000), Ok(2)); // 2 and a half
+/// assert_eq!(per_mille(1, 3), Ok(333));
+/// assert_eq!(per_mille(1_999, 2_000), Ok(1_000)); // 999 and a half
 /// ```
 ///
 /// # Errors

@@ -15,6 +15,7 @@ use trials::places;
 use trials::random::below;
 use trials::random::draw;
 use trials::random::once_in;
+use trials::rates;
 use trials::searches;
 
 fn fill_entries(how: u32, n: u32, documents: u32, seed: u32, entries: &mut [u32]) {
@@ -110,14 +111,12 @@ fn ask_one(
     seed: u32,
     made: &mut [u32; 64],
 ) {
-    if kind < 10 {
-        numbers::ask(kind, archive, entries, lengths, l, seed, made);
-    } else if kind < 12 {
-        lists::list(kind, archive, entries, lengths, l, seed, made);
-    } else if kind == 12 {
-        lists::conjunction(archive, entries, lengths, l, seed, made);
-    } else {
-        searches::ask_drawn(kind, archive, entries, lengths, l, seed, made);
+    match kind {
+        3 | 4 | 5 | 6 | 7 | 8 => numbers::ask(kind, archive, entries, lengths, l, seed, made),
+        9 => rates::ask(rates::rate(seed), made),
+        10 | 11 => lists::list(kind, archive, entries, lengths, l, seed, made),
+        12 => lists::conjunction(archive, entries, lengths, l, seed, made),
+        _ => searches::ask_drawn(kind, archive, entries, lengths, l, seed, made),
     }
 }
 

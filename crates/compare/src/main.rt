@@ -1,5 +1,5 @@
-// Many random libraries, and every pattern of terms and every short sequence of words and marks in a few small ones, through the code and beside a plain
-// count over the list.
+// Many random libraries, every pattern of terms and every short sequence of words and marks in a few small ones, and every rate of a small size, through
+// the code and beside a plain count over the list.
 mod archives;
 mod library;
 mod patterns;
@@ -12,6 +12,7 @@ use sequences::sequences;
 use shapes::shape_of;
 use trials::differences::totals;
 use trials::random::draw;
+use trials::rates::ask_rates;
 
 fn libraries(made: &mut [u32; 64]) {
     let mut i: u32 = 0;
@@ -27,5 +28,6 @@ fn main() {
     libraries(&mut made);
     patterns(&mut made);
     sequences(&mut made);
+    ask_rates(&mut made);
     totals(&made);
 }

@@ -7,10 +7,12 @@ use mathlib.Core.Logic.{_⊎_, inl, inr}
 use mathlib.Core.List.{List, [], _∷_}
 use mathlib.Core.Bool.{Bool, true, false, cond, _&&_}
 use lib.Dec.{ltb, eqb}
-use borrow.Author.Tests.{ltb-true, ltb-false, eqb-true, eqb-false}
+use borrow.Author.Tests.{lt-ltb, le-ltb, ltb-true, ltb-false, eq-eqb, ne-eqb, eqb-true, eqb-false}
 use Rattle.bits.specs.Sequences.{upFrom}
-use Rattle.bits.proofs.Tests.{look, or-cases, or-neither, and-both, and-cases, le-or-lt, Cmp, less, same, more, cmp}
+use Rattle.bits.proofs.Tests.{look, or-cases, or-right, or-neither, and-both, and-cases, le-or-lt, Cmp, less, same, more, cmp}
 use Rattle.model.specs.Rate.{distance, IsNearest, rather, chosen, rate}
+use Rattle.model.specs.Queries.{perMilleResult}
+use Rattle.model.specs.RateDemand.{RateDemand}
 
 module _ (a b : ℕ) (pos : 0 < b) where
   -- ---- one number at most
@@ -181,3 +183,15 @@ nearest-rate count size pos l r x = nearest-only (count * 1000) size pos r (rate
 
 pub rate-le : (count size : ℕ) → 0 < size → count ≤ size → rate count size ≤ 1000
 rate-le count size pos l = nearest-le (count * 1000) size pos 1000 (rate count size) (omega arith) (rate-nearest count size pos l)
+
+-- ---- the request's sentences, of what the question comes to
+
+pub rate-demand : (count size : ℕ) → RateDemand count size (perMilleResult count size)
+rate-demand count size = record {
+  rounded = rate count size;
+  nearest = rate-nearest count size;
+  only = nearest-rate count size;
+  answer = λ pos l. rw (ne-eqb size 0 (omega arith), le-ltb size count l);
+  no-size = λ e. rw (eq-eqb size 0 e);
+  above = λ l. rw (or-right (eqb size 0) (ltb size count) (lt-ltb size count l));
+}

@@ -7,6 +7,7 @@ use Rattle.bits.specs.Bits.{bitsOf, pack, samplesOf, samplesRight, unusedClear}
 use Rattle.model.specs.Outcome.{Outcome, answered, refused}
 use Rattle.model.specs.Format.{Library, Sizes, rowsOf, encode}
 use Rattle.model.specs.Opening.{entriesAt, opening}
+use Rattle.model.specs.Rate.{rate}
 use Rattle.model.specs.Queries.{ofEntries, accessResult, rankResult, selectResult, quantileResult, PairsResult, conjunctionResult, perMilleResult}
 use Rattle.model.specs.TopK.{Ended, doneWith, spentWith, SearchResult, greedyResult}
 
@@ -44,7 +45,7 @@ pub data Question : Type 0 where
   ofRank : ℕ → ℕ → ℕ → Question
   shortlist : ℕ → ℕ → ℕ → ℕ → Question
   allOf : List ℕ → Question
-  rate : ℕ → ℕ → Question
+  perMille : ℕ → ℕ → Question
   opens : Question
 
 -- a lent slice holds nines; what it holds at the end is part of the reply
@@ -64,7 +65,7 @@ ask archive (placeOf j d) = numberIs (selectResult archive d j)
 ask archive (ofRank r a b) = numberIs (quantileResult archive (ofEntries a b) r)
 ask archive (shortlist a b k allowance) = searchIs (greedyResult archive (ofEntries a b) k allowance (nines 8) (nines 17))
 ask archive (allOf terms) = pairsAre (conjunctionResult archive (terms ++ nines 8) (length terms) (nines 9))
-ask archive (rate c size) = numberIs (perMilleResult c size)
+ask archive (perMille c size) = numberIs (perMilleResult c size)
 ask archive opens = openingIs (opening archive)
 
 -- a search of a library with N documents: how it ended, and the answer slice; the first 4 * N numbers of the work slice are 0
@@ -94,7 +95,7 @@ questions =
     ∷ shortlist 4 4 5 0
     ∷ allOf (0 ∷ 2 ∷ [])
     ∷ allOf (0 ∷ 0 ∷ [])
-    ∷ rate 3 16
+    ∷ perMille 3 16
     ∷ []
 
 abbrev pub answers : List Reply
@@ -114,11 +115,11 @@ answers =
     ∷ searched 4 (doneWith 0 0) (nines 8)
     ∷ listed 3 (0 ∷ 2 ∷ 1 ∷ 2 ∷ 3 ∷ 3 ∷ nines 3)
     ∷ listed 3 (0 ∷ 1 ∷ 1 ∷ 1 ∷ 3 ∷ 1 ∷ nines 3)
-    ∷ numberIs (answered 187)
+    ∷ numberIs (answered 188)
     ∷ []
 
 pub cases : map (ask smallArchive) questions ≡ answers
-unfolding bitsOf samplesRight unusedClear entriesAt opening
+unfolding bitsOf samplesRight unusedClear entriesAt opening rate
 cases = refl
 
 -- ---- the other cases of the table

@@ -22,10 +22,12 @@ pub mod Demand2
 pub mod Demand3
 pub mod WeightedDemand
 pub mod BooleanDemand
+pub mod RateDemand
 pub mod Cases
 pub mod WeightedCases
 pub mod DistinctCases
 pub mod PlaceCases
+pub mod RateCases
 pub mod HalvingCases
 pub mod ReadingCases
 pub mod BooleanCases

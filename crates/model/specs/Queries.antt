@@ -1,5 +1,5 @@
 -- The questions over the plain list, each with its whole result. Document 01, "The questions" and their refusals 10 to 12.
-use Prim.Native.Nat.{ℕ, suc, _+_, _*_, _/_}
+use Prim.Native.Nat.{ℕ, suc, _+_, _*_}
 use mathlib.Core.List.{List, [], _∷_, map}
 use mathlib.Core.Bool.{Bool, _||_}
 use lib.ListN.{length, getD, take}
@@ -8,6 +8,7 @@ use Rattle.bits.specs.Sequences.{all, below, occurrences, rank, select}
 use Rattle.bits.specs.Bits.{sum}
 use Rattle.model.specs.Lists.{keep, any, part, sorted, overwrite}
 use Rattle.model.specs.Distinct.{distinct}
+use Rattle.model.specs.Rate.{rate}
 use Rattle.model.specs.Outcome.{Outcome, answered, refused, refuse, andThen}
 use Rattle.model.specs.Format.{Library}
 use Rattle.model.specs.Opening.{opened}
@@ -148,6 +149,6 @@ conjunctionResult bytes numbers size answers =
 
 -- ---- per mille: the rate
 
--- count * 1,000 / size of range, rounded down
+-- count * 1,000 / size of range, to the nearest, an exact half to the even one (document 02, M-105)
 abbrev pub perMilleResult : ℕ → ℕ → Outcome ℕ
-perMilleResult count size = refuse 11 (eqb size 0 || ltb size count) (answered (count * 1000 / size))
+perMilleResult count size = refuse 11 (eqb size 0 || ltb size count) (answered (rate count size))

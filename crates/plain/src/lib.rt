@@ -8,6 +8,7 @@ pub mod numbers;
 pub mod outcome;
 pub mod pairs;
 mod postfix;
+pub mod rate;
 mod reading;
 pub mod search;
 pub mod weighted;

@@ -143,16 +143,6 @@ fn quantile(entries: &[u32], l: Sizes, range: Outcome, r: u32) -> Outcome {
     ranked(&counts, l.documents, r)
 }
 
-fn per_mille(count: u32, size: u32) -> Outcome {
-    if size == 0 {
-        return refused(11);
-    }
-    if size < count {
-        return refused(11);
-    }
-    number(((count as u64) * 1000 / (size as u64) % 4294967296) as u32)
-}
-
 pub fn answer(entries: &[u32], lengths: &[u32], l: Sizes, q: Question) -> Outcome {
     let kind = q.kind;
     match kind {
@@ -161,7 +151,6 @@ pub fn answer(entries: &[u32], lengths: &[u32], l: Sizes, q: Question) -> Outcom
         5 => select(entries, l, q.a, q.b),
         6 => quantile(entries, l, range_of_entries(l, q.a, q.b), q.c),
         7 => quantile(entries, l, range_of_terms(lengths, l, q.a, q.b), q.c),
-        8 => range_of_terms(lengths, l, q.a, q.b),
-        _ => per_mille(q.a, q.b),
+        _ => range_of_terms(lengths, l, q.a, q.b),
     }
 }

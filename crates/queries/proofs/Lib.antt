@@ -1,2 +1,3 @@
 -- Laws of the questions.
 pub mod Results
+pub mod Demand

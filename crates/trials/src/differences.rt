@@ -43,14 +43,15 @@ fn name(kind: u32) {
         19 => text(b"conjunction of patterns"),
         20 => text(b"weighted of patterns"),
         21 => text(b"boolean"),
-        _ => text(b"boolean of sequences"),
+        22 => text(b"boolean of sequences"),
+        _ => text(b"per mille of small sizes"),
     }
 }
 
-const KINDS: u32 = 23;
+const KINDS: u32 = 24;
 
 // A refusal's slot is its number and this.
-const REFUSALS: u32 = 23;
+const REFUSALS: u32 = 24;
 
 // How many of the weighted searches of patterns end so: an end's slot is its number and this.
 const ENDS: u32 = 48;
@@ -64,6 +65,9 @@ const NO_MATCH: u32 = 54;
 const SOME_MATCH: u32 = 55;
 
 const ALL_MATCH: u32 = 56;
+
+// How many of the rates are exact halves.
+const HALVES: u32 = 57;
 
 const DIFFERENCES: u32 = 63;
 
@@ -155,6 +159,16 @@ pub fn count_matches(answer: Outcome, documents: u32, made: &mut [u32; 64]) {
     }
 }
 
+// Of a rate.
+pub fn count_half(rate: Outcome, half: bool, made: &mut [u32; 64]) {
+    if rate.what != NUMBER {
+        return;
+    }
+    if half {
+        count_at(made, HALVES);
+    }
+}
+
 // How many there are.
 pub fn differences(made: &[u32; 64]) -> u32 {
     at(made, DIFFERENCES)
@@ -221,11 +235,13 @@ fn matches(made: &[u32; 64]) {
     show(at(made, SOME_MATCH));
     text(b", all");
     show(at(made, ALL_MATCH));
+    text(b"\nrates at a half");
+    show(at(made, HALVES));
     text(b"\n");
 }
 
-// One line a kind of question, and how many were compared; how the weighted searches of patterns ended, how many places were the end, and how many
-// documents matched; then how many are refused, by number; then the differences.
+// One line a kind of question, and how many were compared; how the weighted searches of patterns ended, how many places were the end, how many
+// documents matched, and how many rates were halves; then how many are refused, by number; then the differences.
 pub fn totals(made: &[u32; 64]) {
     kinds(made);
     ends(made);

@@ -1,4 +1,4 @@
-// Questions for a number: access, rank, select, quantile, the range of terms, the count per mille.
+// Questions of an archive for a number: access, rank, select, quantile, the range of terms.
 use crate::differences::compare;
 use crate::differences::count_place;
 use crate::random::below;
@@ -41,8 +41,7 @@ fn asked(archive: &[u8], q: Question) -> Outcome {
         5 => answered(queries::select(archive, q.a, q.b)),
         6 => answered(queries::quantile(archive, q.a, q.b, q.c)),
         7 => answered(queries::quantile_terms(archive, q.a, q.b, q.c)),
-        8 => ranged(queries::range_of_terms(archive, q.a, q.b)),
-        _ => answered(queries::per_mille(q.a, q.b)),
+        _ => ranged(queries::range_of_terms(archive, q.a, q.b)),
     }
 }
 
@@ -76,15 +75,6 @@ fn half_share(n: u32, m: u32) -> u32 {
     plus(n / m / 2, 1)
 }
 
-fn rate(seed: u32) -> Question {
-    let size = draw(seed, 1);
-    if below(draw(seed, 2), 2) == 0 {
-        return question_of(9, below(draw(seed, 3), size), size, 0);
-    }
-    let e = two_ends(draw(seed, 4), 300);
-    question_of(9, e.first, e.last, 0)
-}
-
 fn drawn(kind: u32, entries: &[u32], l: Sizes, seed: u32) -> Question {
     match kind {
         3 => question_of(3, near(draw(seed, 1), minus(l.n, 1)), 0, 0),
@@ -105,11 +95,10 @@ fn drawn(kind: u32, entries: &[u32], l: Sizes, seed: u32) -> Question {
             half_share(l.n, l.terms),
             draw(seed, 7),
         ),
-        8 => {
+        _ => {
             let e = two_ends(draw(seed, 8), minus(l.terms, 1));
             question_of(8, e.first, e.last, 0)
         }
-        _ => rate(draw(seed, 9)),
     }
 }
 

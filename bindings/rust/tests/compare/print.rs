@@ -68,7 +68,7 @@ fn the_small_library() -> Result<(), Refusal> {
     assert_eq!(archive.conjunction(&[0, 2])?, [(0, 2), (1, 2), (3, 3)]);
     assert_eq!(archive.conjunction(&[0, 0])?, [(0, 1), (1, 1), (3, 1)]);
     assert!(archive.conjunction(&[0, 1])?.is_empty());
-    assert_eq!(per_mille(3, 16)?, 187);
+    assert_eq!(per_mille(3, 16)?, 188);
     Ok(())
 }
 

@@ -291,10 +291,12 @@ fn with_allowance(library: &Library, mut full: Pairs, nodes: &[(u32, u32)], allo
     with_work(found, library)
 }
 
-/// The rate.
+/// The rate: of 0 to 1,000 the number nearest to the quotient, and of two equally near the even one.
 pub fn per_mille(count: u32, size: u32) -> Result<u32, u32> {
     if size == 0 || count > size {
         return Err(11);
     }
-    Ok((u64::from(count) * 1_000 / u64::from(size)) as u32)
+    let (count, size) = (u64::from(count), u64::from(size));
+    let distance = |rate: u32| (u64::from(rate) * size).abs_diff(count * 1_000);
+    Ok((0..=1_000).min_by_key(|&rate| (distance(rate), rate % 2)).unwrap())
 }

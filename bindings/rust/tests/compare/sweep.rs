@@ -184,6 +184,14 @@ fn rates() {
         pairs.extend(edges.map(|size| (count, size)));
     }
     pairs.extend((0..rounds(2_000)).map(|_| (random.next(), random.next())));
+    for size in 0..=100 {
+        pairs.extend((0..=size + 1).map(|count| (count, size)));
+    }
+    // Exact halves, an odd number of the 2,000 parts of a size, and what is beside them.
+    for _ in 0..rounds(2_000) {
+        let (part, odd) = (1 + random.below(2_147_483), 1 + 2 * random.below(1_000));
+        pairs.extend([odd * part - 1, odd * part, odd * part + 1].map(|count| (count, 2_000 * part)));
+    }
     for (count, size) in pairs {
         let got = masuvelior::per_mille(count, size).map_err(Refusal::number);
         assert_eq!(got, per_mille(count, size), "{count} of {size}");
