@@ -4,6 +4,7 @@
 #include "abi.h"
 #include "contender.h"
 #include "definition.h"
+#include "timing.h"
 #include <algorithm>
 #include <deque>
 #include <math.h>
@@ -13,7 +14,6 @@
 #include <stdlib.h>
 #include <string.h>
 #include <string>
-#include <time.h>
 #include <vector>
 
 Contender scan_contender();
@@ -484,18 +484,6 @@ void verify(const std::vector<Contender> &all) {
 }
 
 // ---- timing
-
-double now() {
-  timespec t;
-  clock_gettime(CLOCK_MONOTONIC, &t);
-  return (double)t.tv_sec * 1e9 + (double)t.tv_nsec;
-}
-
-double at_part(std::vector<double> v, double part) {
-  std::sort(v.begin(), v.end());
-  return v[(size_t)(part * (double)(v.size() - 1))];
-}
-double median(const std::vector<double> &v) { return at_part(v, 0.5); }
 
 uint64_t __attribute__((noinline)) batch(op_fn *f, void *index, const Query *q, size_t count, size_t width, uint32_t *answers) {
   uint64_t sum = 0;

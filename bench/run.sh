@@ -30,12 +30,10 @@ peer plain_nopop 0
 peer tight 1 -mpopcnt
 peer plain 0 -mpopcnt
 
-# The library of another commit, its functions under other names.
 before=
 if [ -n "$BEFORE" ]; then
   before=-DBEFORE
-  nm -g --defined-only "$BEFORE" | awk '$2 == "T" { print $3, "before_" $3 }' >build/before.names
-  objcopy --redefine-syms=build/before.names "$BEFORE" build/before.a
+  ./before.sh "$BEFORE" build
   $CXX $flags -DOURS=before -DCHECKED=0 $(awk '{ print "-D" $1 "=" $2 }' build/before.names) -c ours.cpp -o build/before.o
   objects="$objects build/before.o build/before.a"
   grep -q "^masuvelior_boolean " build/before.names || before="$before -DBEFORE_WITHOUT_BOOLEAN"

@@ -1,32 +1,13 @@
 // Each operation of bit_rows beside its peer, in rounds that take turns: medians, and the median of the rounds' ratios.
+#include "../turns.h"
 #include "peer.h"
-#include <algorithm>
 #include <stdio.h>
 #include <string.h>
-#include <time.h>
-#include <vector>
 
 namespace {
 const size_t N = 65535, QUERIES = 1 << 16, ROUNDS = 101;
 std::vector<uint8_t> row((N + 7) / 8), samples(4 * ((N + 511) / 512));
 size_t sink;
-
-uint64_t seed = 1;
-uint64_t next() {
-  seed = seed * 6364136223846793005u + 1442695040888963407u;
-  return seed >> 33;
-}
-
-double now() {
-  timespec t;
-  clock_gettime(CLOCK_MONOTONIC, &t);
-  return t.tv_sec * 1e9 + t.tv_nsec;
-}
-
-double median(std::vector<double> v) {
-  std::sort(v.begin(), v.end());
-  return v[v.size() / 2];
-}
 
 double places(place_fn *f, const std::vector<size_t> &queries) {
   double start = now();
@@ -42,14 +23,9 @@ double checks(check_fn *f) {
 }
 
 template <class Run> void compare(const char *name, const char *peer, Run ours, Run theirs, double bytes) {
-  std::vector<double> a, b, ratio;
-  for (size_t k = 0; k < ROUNDS; k++) {
-    double x, y;
-    if (k % 2) { x = ours(); y = theirs(); } else { y = theirs(); x = ours(); }
-    a.push_back(x); b.push_back(y); ratio.push_back(x / y);
-  }
-  printf("| %s | %s | %.2f ns | %.2f ns | %.2f |", name, peer, median(a), median(b), median(ratio));
-  if (bytes > 0) printf(" %.1f GB/s |\n", bytes / median(a)); else printf(" |\n");
+  Turns t = in_turns(ROUNDS, ours, theirs);
+  printf("| %s | %s | %.2f ns | %.2f ns | %.2f |", name, peer, t.ours, t.theirs, t.ratio);
+  if (bytes > 0) printf(" %.1f GB/s |\n", bytes / t.ours); else printf(" |\n");
 }
 
 void compare_places(const char *name, const char *peer, place_fn *ours, place_fn *theirs, size_t largest) {

@@ -1,11 +1,9 @@
 // The rate beside its peers, in rounds that take turns: medians, and the median of the rounds' ratios.
-#include "peer.h"
+#include "../turns.h"
 #include "masuvelior.h"
-#include <algorithm>
+#include "peer.h"
 #include <stdio.h>
 #include <stdlib.h>
-#include <time.h>
-#include <vector>
 
 #ifdef BEFORE
 extern "C" rate_fn before_masuvelior_per_mille;
@@ -17,12 +15,6 @@ struct Pair { uint32_t count, size; };
 typedef std::vector<Pair> Pairs;
 uint32_t sink;
 
-uint64_t seed = 1;
-uint32_t next() {
-  seed = seed * 6364136223846793005u + 1442695040888963407u;
-  return seed >> 32;
-}
-
 // Counts up to sizes of so many bits, one in four at a half or beside it.
 Pairs drawn(uint32_t bits) {
   Pairs pairs(QUERIES);
@@ -33,17 +25,6 @@ Pairs drawn(uint32_t bits) {
     if (parts && next() % 4 == 0) p = {(2 * (next() % 1000) + 1) * parts + next() % 3 - 1, 2000 * parts};
   }
   return pairs;
-}
-
-double now() {
-  timespec t;
-  clock_gettime(CLOCK_MONOTONIC, &t);
-  return t.tv_sec * 1e9 + t.tv_nsec;
-}
-
-double median(std::vector<double> v) {
-  std::sort(v.begin(), v.end());
-  return v[v.size() / 2];
 }
 
 double timed(rate_fn *f, const Pairs &pairs) {
@@ -65,13 +46,8 @@ void verify(const char *name, rate_fn *f, const Pairs &pairs) {
 }
 
 void compare(uint32_t bits, const char *name, rate_fn *theirs, const Pairs &pairs) {
-  std::vector<double> a, b, ratio;
-  for (size_t k = 0; k < ROUNDS; k++) {
-    double x, y;
-    if (k % 2) { x = timed(masuvelior_per_mille, pairs); y = timed(theirs, pairs); } else { y = timed(theirs, pairs); x = timed(masuvelior_per_mille, pairs); }
-    a.push_back(x); b.push_back(y); ratio.push_back(x / y);
-  }
-  printf("| %u bits | %s | %.2f ns | %.2f ns | %.2f |\n", bits, name, median(a), median(b), median(ratio));
+  Turns t = in_turns(ROUNDS, [&] { return timed(masuvelior_per_mille, pairs); }, [&] { return timed(theirs, pairs); });
+  printf("| %u bits | %s | %.2f ns | %.2f ns | %.2f |\n", bits, name, t.ours, t.theirs, t.ratio);
 }
 
 void compare_all(uint32_t bits) {

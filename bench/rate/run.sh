@@ -8,12 +8,7 @@ CXX=${CXX:-$(command -v clang++ || command -v g++)}
 out=$root/target/bench
 (cd "$root" && rt staticlib masuvelior >/dev/null)
 mkdir -p "$out"
-before=
-if [ -n "$BEFORE" ]; then
-  nm -g --defined-only "$BEFORE" | awk '$2 == "T" { print $3, "before_" $3 }' >"$out/before.names"
-  objcopy --redefine-syms="$out/before.names" "$BEFORE" "$out/before.a"
-  before="-DBEFORE"
-fi
-for f in peer run; do "$CXX" -std=c++17 -O3 $before -I"$root/bindings/c" -c $f.cpp -o "$out/rate_$f.o"; done
+if [ -n "$BEFORE" ]; then ../before.sh "$BEFORE" "$out"; fi
+for f in peer run; do "$CXX" -std=c++17 -O3 ${BEFORE:+-DBEFORE} -I"$root/bindings/c" -c $f.cpp -o "$out/rate_$f.o"; done
 "$CXX" "$out/rate_peer.o" "$out/rate_run.o" "$root/target/staticlib/libmasuvelior.a" ${BEFORE:+"$out/before.a"} -o "$out/rate"
 "$out/rate"

@@ -1,4 +1,4 @@
--- To the nearest whole number. Document 02, M-105: "round to the nearest whole number, and an exact half goes to the even one. The rate follows".
+-- Round half to even. Document 02, M-105: "round to the nearest whole number, and an exact half goes to the even one. The rate follows".
 use Prim.Native.Nat.{ℕ, _+_, _-_, _*_, _%_, _≤_}
 use mathlib.Core.Path.{_≡_}
 use mathlib.Core.List.{List, [], _∷_}
@@ -14,8 +14,8 @@ apart x y = (x - y) + (y - x)
 abbrev pub distance : ℕ → ℕ → ℕ → ℕ
 distance a b r = apart (r * b) a
 
--- the property: r is a / b rounded to the nearest whole number, an exact half to the even one
-pub record IsNearest (a b r : ℕ) : Type 0 where
+-- the property: r is a / b rounded to the nearest whole number, an exact half to the even one (round half to even)
+pub record IsRounded (a b r : ℕ) : Type 0 where
   -- no whole number is nearer
   pub nearest : (s : ℕ) → distance a b r ≤ distance a b s
   -- where another is as near, this is the even one
@@ -31,6 +31,6 @@ chosen a b r [] = r
 chosen a b r (s ∷ ss) = chosen a b (cond (rather a b s r) s r) ss
 
 -- the rate of a count in a size: of 0 to 1,000 the one nearest to count × 1,000 / size.
--- It has the property, and no other number has it (`rate-nearest`, `nearest-only` in proofs/Rate)
+-- It has the property, and no other number has it (`rate-rounded`, `rounded-only` in proofs/Rate)
 unfoldable pub rate : ℕ → ℕ → ℕ
 rate count size = chosen (count * 1000) size 0 (below 1001)

@@ -2,15 +2,15 @@
 use Prim.Native.Nat.{ℕ, _*_, _≤_, _<_}
 use mathlib.Core.Path.{_≡_}
 use Rattle.model.specs.Outcome.{Outcome, answered, refused}
-use Rattle.model.specs.Rate.{IsNearest}
+use Rattle.model.specs.Rate.{IsRounded}
 
 -- of a count and the size of a range: what the question comes to
 pub record RateDemand (count size : ℕ) (result : Outcome ℕ) : Type 0 where
   -- "to the nearest whole number, and an exact half goes to the even one": there is such a number ..
   pub rounded : ℕ
-  pub nearest : 0 < size → count ≤ size → IsNearest (count * 1000) size rounded
+  pub rounds : 0 < size → count ≤ size → IsRounded (count * 1000) size rounded
   -- .. and no second one
-  pub only : 0 < size → count ≤ size → (r : ℕ) → IsNearest (count * 1000) size r → r ≡ rounded
+  pub only : 0 < size → count ≤ size → (r : ℕ) → IsRounded (count * 1000) size r → r ≡ rounded
   -- "The rate follows"
   pub answer : 0 < size → count ≤ size → result ≡ answered rounded
   -- document 01's 11, which stays: "rate with size 0 ..

@@ -2,14 +2,15 @@
 use answers::Answer;
 ghost use Prim.Native.Nat.{_*_, _≤_, _<_};
 ghost use mathlib.Core.Path.{_≡_};
-ghost use Rattle.model.specs.Rate.{IsNearest};
+ghost use Rattle.model.specs.Rate.{IsRounded};
 ghost use Rattle.model.specs.Queries.{perMilleResult};
 ghost use Rattle.answers.specs.Answers.{numberOf};
 
-// a / b to the nearest whole number, an exact half to the even one: past half, or at half of an odd quotient, it is the number after the quotient.
-fn nearest(a: u64, b: u64) -> u64
+// a / b to the nearest whole number, an exact half to the even one: the quotient, or the number after it where the rest is more than half of b, or is half of
+// it and the quotient odd.
+fn round_half_even(a: u64, b: u64) -> u64
     requires { ⌜ (0 < b) × (b ≤ 4294967295) × (a ≤ 1000 * b) ⌝ }
-    ensures { λ r. ⌜ IsNearest a b r ⌝ }
+    ensures { λ r. ⌜ IsRounded a b r ⌝ }
 {
     let whole = a / b;
     if b < 2 * (a % b) + whole % 2 {
@@ -18,7 +19,7 @@ fn nearest(a: u64, b: u64) -> u64
     whole
 }
 
-// The rate: count × 1,000 / size of a range, rounded so (document 02, M-105).
+// The rate: count × 1,000 / size of a range, rounded half to even (document 02, M-105).
 pub fn per_mille(count: u32, size: u32) -> Answer
     ensures { λ r. ⌜ numberOf r ≡ perMilleResult count size ⌝ }
 {
@@ -28,5 +29,5 @@ pub fn per_mille(count: u32, size: u32) -> Answer
     if size < count {
         return Answer::Refused(11);
     }
-    Answer::Number(nearest((count as u64) * 1000, size as u64) as u32)
+    Answer::Number(round_half_even((count as u64) * 1000, size as u64) as u32)
 }

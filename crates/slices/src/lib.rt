@@ -20,5 +20,6 @@ pub use numbers::plus;
 pub use numbers::put;
 pub use numbers::put_pair;
 pub use numbers::same;
+pub use numbers::times;
 pub use numbers::up;
 pub use shorts::put_short;

@@ -1,12 +1,16 @@
 // Numbers of 32 bits and slices of them.
 
-// Sums and differences wrap at 2^32. Counts and places of the plain side stay far below it; seeds, and a question drawn near the end of 32 bits, may wrap.
+// Sums, differences and products wrap at 2^32. Counts and places of the plain side stay far below it; seeds, and a question drawn near the end of 32 bits, may wrap.
 pub fn plus(x: u32, y: u32) -> u32 {
     std::num::wrapping_add_u32(x, y)
 }
 
 pub fn minus(x: u32, y: u32) -> u32 {
     std::num::wrapping_sub_u32(x, y)
+}
+
+pub fn times(x: u32, y: u32) -> u32 {
+    ((x as u64) * (y as u64) % 4294967296) as u32
 }
 
 pub fn least(x: u32, y: u32) -> u32 {

@@ -235,7 +235,11 @@ fn matches(made: &[u32; 64]) {
     show(at(made, SOME_MATCH));
     text(b", all");
     show(at(made, ALL_MATCH));
-    text(b"\nrates at a half");
+    text(b"\n");
+}
+
+fn halves(made: &[u32; 64]) {
+    text(b"rates at a half");
     show(at(made, HALVES));
     text(b"\n");
 }
@@ -246,6 +250,7 @@ pub fn totals(made: &[u32; 64]) {
     kinds(made);
     ends(made);
     matches(made);
+    halves(made);
     refusals(made);
     text(b"differences");
     show(differences(made));

@@ -9,10 +9,7 @@ use plain::outcome::Question;
 use plain::outcome::question_of;
 use slices::minus;
 use slices::plus;
-
-fn times(x: u32, y: u32) -> u32 {
-    ((x as u64) * (y as u64) % 4294967296) as u32
-}
+use slices::times;
 
 // An odd number of the 2,000 parts of a size, or one less or more.
 fn beside_half(seed: u32) -> Question {

@@ -3,8 +3,8 @@ use Prim.Native.Nat.{_*_, _≤_}
 use native.Mathlib.Omega.{arith}
 use native.Mathlib.Nat.{mul-le-mul}
 use borrow.Author.Needs.{needs}
-use Rattle.trials.proofs.rates.times.Statement.{statement}
-use Rattle.trials.proofs.rates.times.Tie as tie
+use Rattle.slices.proofs.numbers.times.Statement.{statement}
+use Rattle.slices.proofs.numbers.times.Tie as tie
 
 mul-result : tie.Need-mul-result
 mul-result c =

@@ -1,9 +1,9 @@
 use borrow.Author.Needs.{needs}
 use native.Mathlib.Omega.{arith}
 use native.Mathlib.Nat.{mod-lt, div-le-self}
-use Rattle.model.proofs.Rate.{stay-nearest, next-nearest}
-use Rattle.queries.proofs.numbers.nearest.Statement.{statement}
-use Rattle.queries.proofs.numbers.nearest.Tie as tie
+use Rattle.model.proofs.Rate.{stay-rounded, next-rounded}
+use Rattle.queries.proofs.numbers.round_half_even.Statement.{statement}
+use Rattle.queries.proofs.numbers.round_half_even.Tie as tie
 
 div-whole : tie.Need-div-whole
 div-whole c = search needs
@@ -21,10 +21,10 @@ add-result : tie.Need-add-result
 add-result c = let g = c .before .args in record { fits = omega (arith, c .before .pre, div-le-self (g .a) (g .b)) }
 
 returns : tie.Need-returns
-returns c = let g = c .before .args in next-nearest (g .a) (g .b) (c .before .pre .0) (omega (arith, c .if1 .taken))
+returns c = let g = c .before .args in next-rounded (g .a) (g .b) (c .before .pre .0) (omega (arith, c .if1 .taken))
 
 returns-2 : tie.Need-returns-2
-returns-2 c = let g = c .before .args in stay-nearest (g .a) (g .b) (c .before .pre .0) (omega (arith, c .if1 .left))
+returns-2 c = let g = c .before .args in stay-rounded (g .a) (g .b) (c .before .pre .0) (omega (arith, c .if1 .left))
 
-pub nearest-spec : {M : Type 1} → statement M
-nearest-spec = tie.close (tie.spec div-whole rem-if1 mul-if1 add-if1 add-result returns returns-2)
+pub round-half-even-spec : {M : Type 1} → statement M
+round-half-even-spec = tie.close (tie.spec div-whole rem-if1 mul-if1 add-if1 add-result returns returns-2)
