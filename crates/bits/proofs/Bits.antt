@@ -199,6 +199,10 @@ module _ (row : List ℕ) (bytes : (i : ℕ) → getD row i 0 < 256) where
 pub shl-one : (r : ℕ) → r < 8 → 1 * 2 ^ r % 256 ≡ 2 ^ r
 shl-one r h = shl-exact {a = 1} 1 r 8 (lit< tt) (omega arith) ∙ omega arith
 
+-- and by less than a word's
+pub shl-one-word : (r : ℕ) → r < 64 → 1 * 2 ^ r % 2 ^ 64 ≡ 2 ^ r
+shl-one-word r h = shl-exact {a = 1} 1 r 64 (lit< tt) (omega arith) ∙ omega arith
+
 pub shl-bit : (b r : ℕ) → b < 2 → r < 8 → b * 2 ^ r % 256 ≡ b * 2 ^ r
 shl-bit b r l h = shl-exact {a = b} 1 r 8 l (omega arith)
 

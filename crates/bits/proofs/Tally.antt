@@ -70,6 +70,17 @@ module _ {A : Type 0} where
       let t = and-both (p x) (all p xs) e in
       both-and (p x) (all p (xs ++ ys)) (t .0) (all-append p xs ys (t .1) f)
 
+  pub all-at : (p : A → Bool) (xs : List A) (i : ℕ) (d : A) → all p xs ≡ true → i < length xs → p (getD xs i d) ≡ true
+  all-at p [] i d e l = absurd (not-suc-le-zero l)
+  all-at p (x ∷ xs) zero d e l = and-both (p x) (all p xs) e .0
+  all-at p (x ∷ xs) (suc i) d e l = all-at p xs i d (and-both (p x) (all p xs) e .1) (le-of-suc-le-suc l)
+
+  pub all-imply : (p q : A → Bool) → ((x : A) → p x ≡ true → q x ≡ true) → (xs : List A) → all p xs ≡ true → all q xs ≡ true
+  all-imply p q h [] e = refl
+  all-imply p q h (x ∷ xs) e =
+      let t = and-both (p x) (all p xs) e in
+      both-and (q x) (all q xs) (h x (t .0)) (all-imply p q h xs (t .1))
+
 pub upFrom-append : (s a b : ℕ) → upFrom s (a + b) ≡ upFrom s a ++ upFrom (s + a) b
 upFrom-append s zero b = rw (zero-add b, add-zero s)
 upFrom-append s (suc a) b = rw (suc-add a b, add-suc s a, ← suc-add s a) (ap (λ r. s ∷ r) (upFrom-append (suc s) a b))

@@ -26,6 +26,15 @@ bit-not-zero false e = absurd (omega arith)
 pub not-bit : (b : Bool) → b ≡ true → bit (not b) ≡ 0
 not-bit b e = rw e
 
+-- a test that is denied
+pub not-true : (b : Bool) → not b ≡ true → b ≡ false
+not-true true e = sym e
+not-true false e = refl
+
+pub not-false : (b : Bool) → not b ≡ false → b ≡ true
+not-false true e = refl
+not-false false e = sym e
+
 pub or-cases : (a b : Bool) → (a || b) ≡ true → (a ≡ true) ⊎ (b ≡ true)
 or-cases true b e = inl refl
 or-cases false b e = inr e

@@ -23,3 +23,4 @@ pub mod Questions
 pub mod Halving
 pub mod Repeated
 pub mod Boolean
+pub mod RankSet

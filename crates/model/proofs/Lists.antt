@@ -175,13 +175,21 @@ keep-within p n h (x ∷ xs) w = rw (h x (w .0)) (ap (λ (r : List ℕ). x ∷ r
 
 -- ---- at or above a value
 
-any-tally : (p : ℕ → Bool) (xs : List ℕ) → any p xs ≡ ltb 0 (tally p xs)
+pub any-tally : (p : ℕ → Bool) (xs : List ℕ) → any p xs ≡ ltb 0 (tally p xs)
 any-tally p [] = refl
 any-tally p (x ∷ xs) = go (p x) (any-tally p xs)
   where
     go : (c : Bool) → any p xs ≡ ltb 0 (tally p xs) → (c || any p xs) ≡ ltb 0 (bit c + tally p xs)
     go true ih = sym (lt-ltb 0 (1 + tally p xs) (omega arith))
     go false ih = rw zero-add ih
+
+pub any-append : (p : ℕ → Bool) (xs ys : List ℕ) → any p (xs ++ ys) ≡ (any p xs || any p ys)
+any-append p [] ys = refl
+any-append p (x ∷ xs) ys = go (p x) (any-append p xs ys)
+  where
+    go : (c : Bool) → any p (xs ++ ys) ≡ (any p xs || any p ys) → (c || any p (xs ++ ys)) ≡ ((c || any p xs) || any p ys)
+    go true ih = refl
+    go false ih = ih
 
 -- those below v and those at or above it are all
 pub tally-below-above : (v : ℕ) (xs : List ℕ) → tally (λ x. ltb x v) xs + tally (leb v) xs ≡ length xs

@@ -15,6 +15,7 @@ pub mod Weighted
 pub mod Grammar
 pub mod Reading
 pub mod Boolean
+pub mod RankSet
 pub mod Halving
 pub mod Probing
 pub mod Frontier
@@ -23,6 +24,7 @@ pub mod Demand3
 pub mod WeightedDemand
 pub mod BooleanDemand
 pub mod RateDemand
+pub mod RankSetDemand
 pub mod Cases
 pub mod WeightedCases
 pub mod DistinctCases
@@ -31,3 +33,4 @@ pub mod RateCases
 pub mod HalvingCases
 pub mod ReadingCases
 pub mod BooleanCases
+pub mod RankSetCases
