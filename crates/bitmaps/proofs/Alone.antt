@@ -13,7 +13,8 @@ use Rattle.model.proofs.Stores.{sets-append}
 use Rattle.wavelet.specs.declared.Span.{Span}
 use Rattle.wavelet.specs.Spans.{halvesOf}
 use Rattle.bitmaps.specs.Words.{spanWord, wordsFrom}
-use Rattle.bitmaps.proofs.Words.{word-fits, one-shifted}
+use Rattle.bits.proofs.Bits.{shl-one-word}
+use Rattle.bitmaps.proofs.Words.{word-fits}
 use Rattle.bitmaps.proofs.Masks.{twice}
 
 -- ---- two digits of base m
@@ -130,7 +131,7 @@ module _ (h j blocks d : ℕ) (l : j + 6 ≤ h) (size : blocks ≡ 2 ^ (h - 6 - 
       let rest : ℕ = blocks - b - 1 in
       let at : place + b ≡ place + length (zeros b) = ap (λ n. place + n) (sym (length-replicate {A = ℕ} b 0)) in
       let all : b + 1 + rest ≡ 2 ^ (h - 6 - j) = omega (arith, block-inside, size) in
-      q ∙ (λ i. sets (set (p i) (place + b) (one-shifted (d % 64) (omega arith) i)) (add-one (place + b) i) (zeros rest))
+      q ∙ (λ i. sets (set (p i) (place + b) (shl-one-word (d % 64) (omega arith) i)) (add-one (place + b) i) (zeros rest))
       ∙ ap (λ n. sets (sets old place (zeros b)) n (2 ^ (d % 64) ∷ zeros rest)) at
       ∙ sym (sets-append old place (zeros b) (2 ^ (d % 64) ∷ zeros rest))
       ∙ ap (sets old place) (sym (words-alone rows (h - 6 - j) (h - j) j s deep d b rest f e refl all))

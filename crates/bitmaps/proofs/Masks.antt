@@ -13,7 +13,8 @@ use Rattle.wavelet.specs.declared.Halves.{Halves}
 use Rattle.wavelet.specs.Spans.{span, halvesOf}
 use Rattle.bitmaps.specs.Words.{blockHeight, spanWord, wordsFrom}
 use Rattle.model.proofs.Stores.{sets-append}
-use Rattle.bitmaps.proofs.Words.{word-empty, one-shifted}
+use Rattle.bits.proofs.Bits.{shl-one-word}
+use Rattle.bitmaps.proofs.Words.{word-empty}
 
 -- ---- how many blocks
 
@@ -59,7 +60,7 @@ all-low h blocks l e =
 pub all-high : (h blocks : ℕ) → 6 ≤ h → h ≤ 12 → blocks ≡ 1 * 2 ^ (h - 6) % 2 ^ 64 → blocks ≡ 2 ^ (h - blockHeight h - 0)
 all-high h blocks l m e =
     let same : h - 6 ≡ h - blockHeight h - 0 = omega arith in
-    e ∙ one-shifted (h - 6) (omega arith) ∙ ap (λ m. 2 ^ m) same
+    e ∙ shl-one-word (h - 6) (omega arith) ∙ ap (λ m. 2 ^ m) same
 
 pub all-few : (h blocks : ℕ) → h ≤ 12 → blocks ≡ 2 ^ (h - blockHeight h - 0) → blocks ≤ 64
 all-few h blocks l e =

@@ -91,10 +91,6 @@ document-fits n d l f =
     let most : 2 ^ n ≤ 2 ^ 6 = pow-mono {i = n} {j = 6} l in
     omega (arith, f)
 
--- one bit, shifted
-pub one-shifted : (k : ℕ) → k < 64 → 1 * 2 ^ k % 2 ^ 64 ≡ 2 ^ k
-one-shifted k h = shl-exact 1 k 64 (omega arith) (omega arith) ∙ omega arith
-
 pub beside-fits : (x y documents : ℕ) → x < 2 ^ documents → y < 2 ^ documents → documents ≤ 32 → x + 2 ^ documents * y < 2 ^ 64
 beside-fits x y documents l m b =
     let square : 2 ^ (documents + documents) ≡ 2 ^ documents * 2 ^ documents = pow-add 2 documents documents in

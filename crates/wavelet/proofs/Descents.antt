@@ -6,7 +6,7 @@ use native.Mathlib.Omega.{arith}
 use native.Mathlib.Decide.{ℕ-discrete, decLe}
 use mathlib.Core.Path.{_≡_, refl, sym, ap, _∙_, subst}
 use mathlib.Core.List.{List}
-use mathlib.Core.Bool.{cond}
+use mathlib.Core.Bool.{Bool, cond}
 use lib.ListN.{length, getD, take}
 use lib.Pow.{pow-pos, pow-mono}
 use lib.Dec.{ltb, eqb}
@@ -17,7 +17,7 @@ use Rattle.model.specs.Lists.{part, Within}
 use Rattle.model.specs.Rows.{row}
 use Rattle.model.specs.Walk.{key, pos}
 use Rattle.model.proofs.Lists.{within-at, length-part, tally-within, within-part}
-use Rattle.model.proofs.Wavelet.Rows.{row-length, row-pos-lt, row-bit, key-half, key-lt, key-root, key-leaf, tally-before-root, count-start, count-middle}
+use Rattle.model.proofs.Wavelet.Rows.{row-length, row-pos-lt, row-bit, key-half, key-lt, key-root, key-leaf, tally-before-root, row-ones, count-halves, count-start, count-middle}
 use Rattle.model.proofs.Wavelet.Rank.{tally-leaf}
 use Rattle.wavelet.specs.declared.Span.{Span}
 use Rattle.wavelet.specs.declared.Halves.{Halves}
@@ -25,6 +25,7 @@ use Rattle.wavelet.specs.Spans.{Ordered, halvesOf, halfOf, spanOf, spanA
 use Rattle.wavelet.specs.declared.Levels.{Levels}
 use Rattle.wavelet.specs.declared.Place.{Place}
 use Rattle.wavelet.specs.Levels.{entriesIn, levelOf}
+use Rattle.wavelet.specs.Descents.{Toward, Leads, CountsUnder}
 use Rattle.wavelet.proofs.Stored.{length-entriesIn, within-entriesIn}
 use Rattle.wavelet.proofs.Spans.{span-root, span-halves, span-count, span-ordered}
 
@@ -77,12 +78,7 @@ module _ (h : ℕ) (xs : List ℕ) (w : Within (2 ^ h) xs) (a b v : ℕ) (an : a
 
 -- ---- what is known on the way
 
--- at depth j: the node that holds v, with the range of the entries a up to but without b
-pub record Toward (bytes : List ℕ) (t : Levels) (a b v j : ℕ) (s : Span) : Type 0 where
-  pub deep : j ≤ t .height
-  pub reached : s ≡ spanOf (t .height) (entriesIn bytes t) a b j (key (t .height) j v)
-
--- the same, with the range's entries in the nodes before it
+-- `Toward`, with the range's entries in the nodes before it
 pub record Below (bytes : List ℕ) (t : Levels) (a b v j : ℕ) (s : Span) (below : ℕ) : Type 0 where
   pub toward : Toward bytes t a b v j s
   pub counted : below ≡ tally (λ x. ltb (key (t .height) j x) (key (t .height) j v)) (part a b (entriesIn bytes t))
@@ -168,6 +164,15 @@ module _ (bytes : List ℕ) (t : Levels) (a b v : ℕ) (ab : a ≤ b) (bl : b �
     pub below-leaf : {below : ℕ} → j ≡ h → Below bytes t a b v j s below → below ≡ tally (λ x. ltb x v) (part a b xs)
     below-leaf e o = o .counted ∙ (λ i. tally (λ x. ltb (key h (e i) x) (key h (e i) v)) (part a b xs)) ∙ (λ i. tally (λ x. ltb (key-leaf h x i) (key-leaf h v i)) (part a b xs))
 
+-- ---- from a place of a node down
+
+-- one row further
+pub leads-next : (bytes : List ℕ) (t : Levels) (v j : ℕ) (p : Place) (k : ℕ) (r : Place) → v < 2 ^ t .height → k < t .height → Leads bytes t v j p k r
+    → (bit : ℕ) → bit ≡ key (t .height) (suc k) v % 2 → (s : Place) → spanAt s ≡ halfOf (halvesOf (levelOf bytes t k) (spanAt r)) bit
+    → Leads bytes t v j p (k + 1) s
+leads-next bytes t v j p k r lv l leads bit e s is i inside from =
+    rw is (toward-next bytes t i i v (le-refl i) inside lv l (leads i inside from) bit e)
+
 -- ---- one entry
 
 -- at depth j: the place of entry i in the node that holds it, and the bits that led there
@@ -219,13 +224,75 @@ module _ (bytes : List ℕ) (t : Levels) (i : ℕ) (l : i < t .entries) where
   pub entry-leaf : {p : Place} {entry : ℕ} {j : ℕ} → j ≡ t .height → Entry bytes t i j p entry → entry ≡ v
   entry-leaf e o = o .bits ∙ ap (λ (n : ℕ). key (t .height) n v) e ∙ key-leaf (t .height) v
 
+-- ---- entries of a node before a place
+
+-- as many as the place is behind the node's start
+pub node-entries : (bytes : List ℕ) (t : Levels) (i v j : ℕ) (p : Place) → Toward bytes t i i v j (spanAt p)
+    → p .at - p .start ≡ tally (λ x. eqb (key (t .height) j x) (key (t .height) j v)) (take i (entriesIn bytes t))
+node-entries bytes t i v j p w = ap (λ (s : Span). s .lo - s .start) (w .reached) ∙ omega arith
+
+-- those of the half that a bit leads to, by the bits of the node's row: its ones, or the rest
+pub half-entries : (bytes : List ℕ) (t : Levels) (i v k : ℕ) (p : Place) → k < t .height → v < 2 ^ t .height → i ≤ t .entries → Toward bytes t i i v k (spanAt p)
+    → (bit : ℕ) → bit ≡ key (t .height) (suc k) v % 2
+    → cond (eqb bit 1) (rank 1 (levelOf bytes t k) (p .at) - rank 1 (levelOf bytes t k) (p .start))
+    ((p .at - p .start) - (rank 1 (levelOf bytes t k) (p .at) - rank 1 (levelOf bytes t k) (p .start)))
+    ≡ tally (λ x. eqb (key (t .height) (suc k) x) (key (t .height) (suc k) v)) (take i (entriesIn bytes t))
+half-entries bytes t i v k p l lv inside w bit e = ap (λ (b : ℕ). cond (eqb b 1) ones (p .at - p .start - ones)) e ∙ go (ℕ-discrete (key h (suc k) v % 2) 1)
+  where
+    h : ℕ
+    h = t .height
+
+    xs : List ℕ
+    xs = entriesIn bytes t
+
+    q : ℕ
+    q = key h k v
+
+    ones : ℕ
+    ones = rank 1 (levelOf bytes t k) (p .at) - rank 1 (levelOf bytes t k) (p .start)
+
+    in-one : ones ≡ tally (λ x. eqb (key h (suc k) x) (2 * q + 1)) (take i xs)
+    in-one =
+        ap (λ (s : Span). rank 1 (levelOf bytes t k) (s .lo) - rank 1 (levelOf bytes t k) (s .start)) (w .reached)
+        ∙ omega (arith, row-ones h k xs l q (key-lt h k v (le-of-lt l) lv) i)
+
+    in-zero : p .at - p .start - ones ≡ tally (λ x. eqb (key h (suc k) x) (2 * q)) (take i xs)
+    in-zero = omega (arith, node-entries bytes t i v k p w, in-one, count-halves h k l q (take i xs))
+
+    go : Dec (key h (suc k) v % 2 ≡ 1) → cond (eqb (key h (suc k) v % 2) 1) ones (p .at - p .start - ones) ≡ tally (λ x. eqb (key h (suc k) x) (key h (suc k) v)) (take i xs)
+    go (yes b) =
+        let odd : 2 * q + 1 ≡ key h (suc k) v = omega (arith, key-half h k v l) in
+        rw (eq-eqb (key h (suc k) v % 2) 1 b) (in-one ∙ ap (λ (n : ℕ). tally (λ x. eqb (key h (suc k) x) n) (take i xs)) odd)
+    go (no b) =
+        let even : 2 * q ≡ key h (suc k) v = omega (arith, key-half h k v l, mod-lt (key h (suc k) v) {m = 2} (zero-lt-suc 1)) in
+        rw (ne-eqb (key h (suc k) v % 2) 1 b) (in-zero ∙ ap (λ (n : ℕ). tally (λ x. eqb (key h (suc k) x) n) (take i xs)) even)
+
+-- by the row above: the bit there is 1, or it is 0
+module _ (bytes : List ℕ) (t : Levels) (v j : ℕ) (p : Place) (k : ℕ) (node : Place) (some : 0 < k) (l : k ≤ t .height) (lv : v < 2 ^ t .height)
+    (leads : Leads bytes t v j p (k - 1) node) where
+  abbrev onesBefore : ℕ
+  onesBefore = rank 1 (levelOf bytes t (k - 1)) (node .at) - rank 1 (levelOf bytes t (k - 1)) (node .start)
+
+  by-bit-above : (i : ℕ) → i ≤ t .entries → Toward bytes t i i v j (spanAt p)
+      → cond (eqb (key (t .height) k v % 2) 1) onesBefore (node .at - node .start - onesBefore) ≡ tally (λ x. eqb (key (t .height) k x) (key (t .height) k v)) (take i (entriesIn bytes t))
+  by-bit-above i inside from =
+      let e : suc (k - 1) ≡ k = omega arith in
+      half-entries bytes t i v (k - 1) node (omega arith) lv inside (leads i inside from) (key (t .height) k v % 2) (ap (λ (n : ℕ). key (t .height) n v % 2) (sym e))
+      ∙ ap (λ (n : ℕ). tally (λ x. eqb (key (t .height) n x) (key (t .height) n v)) (take i (entriesIn bytes t))) e
+
+  pub count-ones : key (t .height) k v % 2 ≡ 1 → CountsUnder bytes t v j p k onesBefore
+  count-ones b i inside from =
+      ap (λ (c : Bool). cond c onesBefore (node .at - node .start - onesBefore)) (sym (eq-eqb (key (t .height) k v % 2) 1 b)) ∙ by-bit-above i inside from
+
+  pub count-zeros : (key (t .height) k v % 2 ≡ 1 → ⊥) → CountsUnder bytes t v j p k (node .at - node .start - onesBefore)
+  count-zeros b i inside from =
+      ap (λ (c : Bool). cond c onesBefore (node .at - node .start - onesBefore)) (sym (ne-eqb (key (t .height) k v % 2) 1 b)) ∙ by-bit-above i inside from
+
 -- ---- occurrences before a place
 
--- the node of a value at the leaves, by the place i
-pub rank-leaf : (bytes : List ℕ) (t : Levels) (i v j : ℕ) (p : Place) → j ≡ t .height → Toward bytes t i i v j (spanAt p)
-    → p .at - p .start ≡ rank v (entriesIn bytes t) i
-rank-leaf bytes t i v j p e o =
-    let h : ℕ = t .height in
-    let xs : List ℕ = entriesIn bytes t in
-    ap (λ (s : Span). s .lo - s .start) (o .reached) ∙ (λ k. pos h xs (e k) (key h (e k) v) i - pos h xs (e k) (key h (e k) v) 0)
-    ∙ ap (λ (q : ℕ). pos h xs h q i - pos h xs h q 0) (key-leaf h v) ∙ omega (arith, tally-leaf h v (take i xs))
+-- of a value: its leaf
+pub rank-leaf : (bytes : List ℕ) (t : Levels) (v i : ℕ)
+    → tally (λ x. eqb (key (t .height) (t .height) x) (key (t .height) (t .height) v)) (take i (entriesIn bytes t)) ≡ rank v (entriesIn bytes t) i
+rank-leaf bytes t v i =
+    ap (λ (q : ℕ). tally (λ x. eqb (key (t .height) (t .height) x) q) (take i (entriesIn bytes t))) (key-leaf (t .height) v)
+    ∙ tally-leaf (t .height) v (take i (entriesIn bytes t))

@@ -4,7 +4,9 @@ use native.Mathlib.Nat.{le-refl, le-trans, le-of-lt}
 use native.Mathlib.Omega.{arith}
 use mathlib.Core.Path.{_≡_, sym, ap, ap₂, _∙_, subst}
 use mathlib.Core.List.{List}
+use mathlib.Core.Bool.{true, false, cond}
 use lib.ListN.{length}
+use lib.Dec.{eqb}
 use Rattle.bits.specs.Sequences.{rank}
 use Rattle.model.specs.Lists.{part, Within}
 use Rattle.model.specs.Walk.{zerosIn, left, right}
@@ -16,7 +18,7 @@ use Rattle.wavelet.specs.declared.Span.{Span}
 use Rattle.wavelet.specs.declared.Mapped.{Mapped}
 use Rattle.wavelet.specs.declared.Halves.{Halves}
 use Rattle.wavelet.specs.Levels.{entriesIn, levelOf}
-use Rattle.wavelet.specs.Spans.{span, Ordered, Maps, halvesAt, halvesOf, rankedOf}
+use Rattle.wavelet.specs.Spans.{span, Ordered, Maps, halvesAt, halvesOf, halfOf, rankedOf}
 use Rattle.wavelet.proofs.Stored.{length-entriesIn, within-entriesIn}
 
 -- a level of n bits
@@ -114,6 +116,9 @@ module _ (bits : List ℕ) (n : ℕ) (v : Level n bits) (s : Span) (o : Ordered 
     to = right-le bits (s .start) (s .hi) (s .end) start-hi (o .to);
     inside = o .inside;
   })
+
+  pub ordered-half-of : (bit : ℕ) → Ordered n (halfOf (halvesOf bits s) bit)
+  ordered-half-of bit = elim (eqb bit 1) as (λ b. Ordered n (cond b (halvesOf bits s .one) (halvesOf bits s .zero))) [ true ↦ ordered-one | false ↦ ordered-zero ]
 
   -- the range's entries in the zero half are its zeros, those in the one half its ones
   left-add : (p : ℕ) → s .start ≤ p → left bits (s .start) p + rank 1 bits p ≡ p + rank 1 bits (s .start)

@@ -5,6 +5,8 @@ mod level;
 mod range;
 
 pub use descent::access;
+pub use descent::count_under;
+pub use descent::descend;
 pub use descent::rank;
 pub use descent::step;
 pub use halving::half;

@@ -7,7 +7,8 @@ use Rattle.wavelet.specs.declared.Span.{Span}
 use Rattle.wavelet.specs.Levels.{levelOf}
 use Rattle.wavelet.proofs.Steps.{level-of}
 use Rattle.bitmaps.specs.Words.{spanWord}
-use Rattle.bitmaps.proofs.Words.{Half, half-empty, half-same, word-fits, word-leaf, word-last, word-node, below-width, small-width, document-fits, one-shifted}
+use Rattle.bits.proofs.Bits.{shl-one-word}
+use Rattle.bitmaps.proofs.Words.{Half, half-empty, half-same, word-fits, word-leaf, word-last, word-node, below-width, small-width, document-fits}
 use borrow.Fn.Kinds.{In}
 use borrow.Fn.PlainCycle.{Measures, is, falls, and}
 use Rattle.bitmaps.proofs.word.node_word.Reads as node-word
@@ -81,7 +82,7 @@ node-word-returns-2 t c =
     let e = c .document-at .ensures in
     let one : g .hi ≡ g .lo + 1 = c .before .if2 .taken in
     let w : 1 * 2 ^ d % 2 ^ 64 ≡ spanWord (levelOf (g .bytes .now) (g .t)) (g .t .height - g .j) (g .j) n
-    = one-shifted d (document-fits (g .t .height - g .j) d (omega (arith, s .pre .1 .1 .1)) (e .0)) ∙ sym (rw one (e .1)) in
+    = shl-one-word d (document-fits (g .t .height - g .j) d (omega (arith, s .pre .1 .1 .1)) (e .0)) ∙ sym (rw one (e .1)) in
     (w, rw w (word-fits (levelOf (g .bytes .now) (g .t)) (g .t .height - g .j) (g .j) n))
 
 node-word-add-if3 : (t : ℕ) → node-word-lts.Need-add-if3 (node-word-calls t) (node-word-at t) node-word.Post
@@ -170,7 +171,7 @@ node-word-beside-requires t c κs =
     let g = s .args in
     let first = c .before .before .before in
     let second = c .before in
-    let w = one-shifted (g .t .height - g .j - 1) (omega (arith, s .pre .1 .1 .1)) in (
+    let w = shl-one-word (g .t .height - g .j - 1) (omega (arith, s .pre .1 .1 .1)) in (
       below-width (g .t .height) (g .j) (first .if4 .first) (1 * 2 ^ (g .t .height - g .j - 1) % 2 ^ 64) (node-word-first t first .1) w,
       below-width (g .t .height) (g .j) (second .if5 .second) (1 * 2 ^ (g .t .height - g .j - 1) % 2 ^ 64) (node-word-second t second .1) w,
       rw w (small-width (g .t .height - g .j - 1) (omega (arith, s .pre .1 .1 .1, s .pre .1 .1 .0, c .before .before .before .before .before .before .before .before .before .before .before .if1 .left))),
@@ -186,7 +187,7 @@ node-word-returns-4 t c =
     let second = c .before .before in
     word-node (levelOf (g .bytes .now) (g .t)) (g .t .height) (g .j) n (omega (arith, s .pre .1 .1 .0, c .before .before .before .before .before .before .before .before .before .before .before .before .if1 .left)) (two .result) (first .if4 .first) (second .if5 .second)
     (1 * 2 ^ (g .t .height - g .j - 1) % 2 ^ 64) (c .beside .result) (two .ensures .0) (node-word-first t first .0) (node-word-second t second .0)
-    (one-shifted (g .t .height - g .j - 1) (omega (arith, s .pre .1 .1 .1))) (c .beside .ensures)
+    (shl-one-word (g .t .height - g .j - 1) (omega (arith, s .pre .1 .1 .1))) (c .beside .ensures)
 
 pub +node-word-spec : {M : Type 1} → statement M
 +node-word-spec = close μ-node-word λ t. node-word-lts.spec (node-word-calls t)
