@@ -6,4 +6,5 @@ mod conjunctions;
 mod entries;
 mod ranges;
 mod searches;
+mod sets;
 mod weighted_searches;

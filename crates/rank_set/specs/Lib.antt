@@ -1,0 +1,3 @@
+-- What the contracts of rank_set cite.
+pub mod Sets
+pub mod Nodes
