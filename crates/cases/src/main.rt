@@ -6,6 +6,7 @@ mod damaged;
 mod names;
 mod numbers;
 mod questions;
+mod sets;
 mod show;
 
 use damaged::ask_damaged;
@@ -34,6 +35,10 @@ fn answer(q: Question, numbers: &[u32], size: u32, bytes: &mut [u8]) -> u32 {
         2 => archives::cut(q.a),
         22 => {
             booleans::ask(numbers, size, bytes);
+            size
+        }
+        23 => {
+            sets::ask(numbers, size, bytes);
             size
         }
         _ => {

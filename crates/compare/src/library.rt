@@ -17,6 +17,7 @@ use trials::random::draw;
 use trials::random::once_in;
 use trials::rates;
 use trials::searches;
+use trials::sets;
 
 fn fill_entries(how: u32, n: u32, documents: u32, seed: u32, entries: &mut [u32]) {
     let mut i = 0;
@@ -162,6 +163,22 @@ fn ask_booleans(
     }
 }
 
+// So many sets of documents.
+fn ask_sets(
+    times: u32,
+    archive: &[u8],
+    entries: &[u32],
+    l: Sizes,
+    seed: u32,
+    made: &mut [u32; 64],
+) {
+    let mut i = 0;
+    while i < times {
+        sets::ask_drawn(archive, entries, l, draw(seed, i), made);
+        i += 1;
+    }
+}
+
 // The check on opening, the reader and the questions, of the archive in the front of a target.
 fn ask_written(
     target: &[u8],
@@ -191,6 +208,7 @@ fn ask_written(
         draw(seed, 5),
         made,
     );
+    ask_sets(questions / 4, archive, entries, l, draw(seed, 6), made);
     walk(archive, entries, l, seed, made);
 }
 

@@ -11,4 +11,5 @@ mod postfix;
 pub mod rate;
 mod reading;
 pub mod search;
+pub mod sets;
 pub mod weighted;

@@ -44,14 +44,15 @@ fn name(kind: u32) {
         20 => text(b"weighted of patterns"),
         21 => text(b"boolean"),
         22 => text(b"boolean of sequences"),
-        _ => text(b"per mille of small sizes"),
+        23 => text(b"per mille of small sizes"),
+        _ => text(b"rank of a set"),
     }
 }
 
-const KINDS: u32 = 24;
+const KINDS: u32 = 25;
 
 // A refusal's slot is its number and this.
-const REFUSALS: u32 = 24;
+const REFUSALS: u32 = 25;
 
 // How many of the weighted searches of patterns end so: an end's slot is its number and this.
 const ENDS: u32 = 48;
@@ -68,6 +69,13 @@ const ALL_MATCH: u32 = 56;
 
 // How many of the rates are exact halves.
 const HALVES: u32 = 57;
+
+// How many of the sets have no entry before the place, some, and all of them.
+const NO_MEMBER: u32 = 58;
+
+const SOME_MEMBERS: u32 = 59;
+
+const ALL_MEMBERS: u32 = 60;
 
 const DIFFERENCES: u32 = 63;
 
@@ -169,6 +177,20 @@ pub fn count_half(rate: Outcome, half: bool, made: &mut [u32; 64]) {
     }
 }
 
+// Of a count of a set before a place.
+pub fn count_members(count: Outcome, place: u32, made: &mut [u32; 64]) {
+    if count.what != NUMBER {
+        return;
+    }
+    if count.x == 0 {
+        count_at(made, NO_MEMBER);
+    } else if count.x == place {
+        count_at(made, ALL_MEMBERS);
+    } else {
+        count_at(made, SOME_MEMBERS);
+    }
+}
+
 // How many there are.
 pub fn differences(made: &[u32; 64]) -> u32 {
     at(made, DIFFERENCES)
@@ -212,7 +234,7 @@ fn refusal_line(x: u32, made: &[u32; 64]) {
 
 fn refusals(made: &[u32; 64]) {
     let mut x = 0;
-    while x < 19 {
+    while x < 20 {
         refusal_line(x, made);
         x += 1;
     }
@@ -244,13 +266,24 @@ fn halves(made: &[u32; 64]) {
     text(b"\n");
 }
 
+fn members(made: &[u32; 64]) {
+    text(b"rank of a set: no entry");
+    show(at(made, NO_MEMBER));
+    text(b", some");
+    show(at(made, SOME_MEMBERS));
+    text(b", all");
+    show(at(made, ALL_MEMBERS));
+    text(b"\n");
+}
+
 // One line a kind of question, and how many were compared; how the weighted searches of patterns ended, how many places were the end, how many
-// documents matched, and how many rates were halves; then how many are refused, by number; then the differences.
+// documents matched, how many rates were halves, and how many entries belonged to a set; then how many are refused, by number; then the differences.
 pub fn totals(made: &[u32; 64]) {
     kinds(made);
     ends(made);
     matches(made);
     halves(made);
+    members(made);
     refusals(made);
     text(b"differences");
     show(differences(made));

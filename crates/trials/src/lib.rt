@@ -12,3 +12,4 @@ pub mod random;
 pub mod rates;
 pub mod searches;
 pub mod sequences;
+pub mod sets;

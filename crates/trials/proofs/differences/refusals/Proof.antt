@@ -8,7 +8,7 @@ abbrev Inv-loop : tie.InvT-loop
 Inv-loop made x₀ x = Unit {0}
 
 abbrev μ-loop : tie.MeasureT-loop
-μ-loop made x₀ x = 19 - x
+μ-loop made x₀ x = 20 - x
 
 loop-holds : tie.Need-loop-holds Inv-loop μ-loop
 loop-holds c = search needs
