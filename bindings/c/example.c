@@ -61,6 +61,40 @@ static void ask(void) {
   say("3 of 16 per mille", masuvelior_per_mille(3, 16, &x), &x, 1);
 }
 
+/* The count of a set of documents, put to the checked function and to that of an opened archive: one line for each. A refusal leaves it as it
+ * was, which is 99. */
+static void count(const char *name, const uint32_t *set, size_t length, uint32_t place) {
+  uint32_t x = 99;
+  uint32_t code = masuvelior_rank_set(archive, size, set, length, place, &x);
+  say(name, code, &x, 1);
+  x = 99;
+  code = masuvelior_opened_rank_set(archive, size, set, length, place, &x);
+  say("  opened", code, &x, 1);
+}
+
+#define COUNT(name, place, ...) \
+  count(name, (const uint32_t[]){__VA_ARGS__}, sizeof((const uint32_t[]){__VA_ARGS__}) / sizeof(uint32_t), place)
+
+/* A set of one counts as rank does, and all four documents count every entry. Refusal 19 comes before 11. */
+static void count_all(void) {
+  uint32_t many[MASUVELIOR_MAX_SET + 1];
+  for (uint32_t i = 0; i < MASUVELIOR_MAX_SET + 1; i++) many[i] = i;
+  COUNT("rank of {0, 3} before 8", 8, 0, 3);
+  COUNT("rank of {0, 3} before 3", 3, 0, 3);
+  COUNT("rank of {3} before 8", 8, 3);
+  COUNT("rank of {0, 1, 2, 3} before 5", 5, 0, 1, 2, 3);
+  count("rank of {} before 8", many, 0, 8);
+  COUNT("rank of {3, 0} before 8", 8, 3, 0);
+  COUNT("rank of {1, 1} before 8", 8, 1, 1);
+  COUNT("rank of {2, 1, 7} before 8", 8, 2, 1, 7);
+  COUNT("rank of {3, 0} before 9", 9, 3, 0);
+  count("rank of {0, .., 64} before 8", many, MASUVELIOR_MAX_SET + 1, 8);
+  count("rank of {0, .., 63} before 8", many, MASUVELIOR_MAX_SET, 8);
+  COUNT("rank of {4} before 8", 8, 4);
+  COUNT("rank of {0, 3} before 9", 9, 0, 3);
+  count("rank of {} before 9", many, 0, 9);
+}
+
 static void search(void) {
   uint32_t answers[2 * N], work[4 * N], listed = 0, end[2] = {9, 9};
   uint32_t code = masuvelior_greedy_entries(archive, size, 0, 8, 2, 9, answers, 4, work, 4 * N, &listed, &end[0], &end[1]);
@@ -200,11 +234,12 @@ static void walk(void) {
 /* A refusal answers its number and leaves what is lent as it was. */
 static void refusals(void) {
   uint32_t x = 99, listed = 98, answers[2 * N] = {5, 5, 5, 5, 5, 5, 5, 5}, work[4 * N] = {6}, end[2] = {97, 96};
-  const uint32_t nine[] = {0, 0, 0, 0, 0, 0, 0, 0, 0}, three[] = {3}, repeated[] = {0, 0, 3};
+  const uint32_t nine[] = {0, 0, 0, 0, 0, 0, 0, 0, 0}, three[] = {3}, repeated[] = {0, 0, 3}, falling[] = {3, 0};
   say("access 8", masuvelior_access(archive, size, 8, &x), &x, 1);
   say("opened access 8", masuvelior_opened_access(archive, size, 8, &x), &x, 1);
   say("select zeroth 0", masuvelior_select(archive, size, 0, 0, &x), &x, 1);
   say("opened select first 4", masuvelior_opened_select(archive, size, 4, 1, &x), &x, 1);
+  say("rank of {3, 0}, one byte less", masuvelior_rank_set(archive, size - 1, falling, 2, 8, &x), &x, 1);
   say("nine terms", masuvelior_conjunction(archive, size, nine, 9, answers, 2 * N, &listed), &listed, 1);
   say("terms 0, 0 and 3", masuvelior_conjunction(archive, size, repeated, 3, answers, 2 * N, &listed), &listed, 1);
   say("opened no terms", masuvelior_opened_conjunction(archive, size, nine, 0, answers, 2 * N, &listed), &listed, 1);
@@ -234,6 +269,7 @@ int main(int argc, char **argv) {
   write_library();
   open_and_read();
   ask();
+  count_all();
   search();
   weigh();
   match_all();

@@ -3,8 +3,9 @@
  * The library is target/staticlib/libmasuvelior.a, which `rt staticlib masuvelior` proves and builds, for x86-64 Linux. It needs no other
  * library than C's, of that memcpy and memset alone, has no state, allocates nothing and may be called from several threads at once. Of the
  * stack a call takes up to 25 KB (masuvelior_write), 22 KB (masuvelior_boolean and masuvelior_opened_boolean), 17 KB (masuvelior_read and
- * masuvelior_opened_read), 7 KB (masuvelior_weighted and masuvelior_opened_weighted) or 4 KB (all others); a program that binds memcpy and
- * memset at their first call lets the loader take 3 KB more there.
+ * masuvelior_opened_read), 7 KB (masuvelior_weighted and masuvelior_opened_weighted), 6 KB (masuvelior_rank_set and
+ * masuvelior_opened_rank_set) or 4 KB (all others); a program that binds memcpy and memset at their first call lets the loader take 3 KB
+ * more there.
  *
  * The answer of each function is 0, or the number of a refusal (enum masuvelior_refusal). Where it is 0 each out-parameter is written, and
  * the lent slices as the function says. Where it is not 0 nothing is written at all.
@@ -35,20 +36,22 @@
 /* The edition of the archive's format, and the version of this interface: the minor number rises where functions are added, the major one
  * where a function's parameters or answers change. From 2.0 on a repeated term counts once (masuvelior_conjunction, masuvelior_weighted);
  * before, it counted each time. From 3.0 on masuvelior_select answers n where a document has fewer than j entries; before, UINT32_MAX. 3.1
- * added questions with and, or, not (masuvelior_boolean). From 4.0 on masuvelior_per_mille rounds to the nearest; before, down. */
+ * added questions with and, or, not (masuvelior_boolean). From 4.0 on masuvelior_per_mille rounds to the nearest; before, down. 4.1 added
+ * the count of a set of documents (masuvelior_rank_set). */
 #define MASUVELIOR_EDITION 1
 #define MASUVELIOR_VERSION_MAJOR 4
-#define MASUVELIOR_VERSION_MINOR 0
+#define MASUVELIOR_VERSION_MINOR 1
 
 /* The limits: n is 0 to MASUVELIOR_MAX_ENTRIES, N and W are 1 to theirs, a conjunction or a weighted search is given 1 to
- * MASUVELIOR_MAX_CHOSEN terms, and a question with and, or, not has 1 to MASUVELIOR_MAX_QUESTION numbers and at most
- * MASUVELIOR_MAX_DEPTH brackets open at once. */
+ * MASUVELIOR_MAX_CHOSEN terms, a question with and, or, not has 1 to MASUVELIOR_MAX_QUESTION numbers and at most MASUVELIOR_MAX_DEPTH
+ * brackets open at once, and a set has 0 to MASUVELIOR_MAX_SET documents. */
 #define MASUVELIOR_MAX_ENTRIES 65535
 #define MASUVELIOR_MAX_DOCUMENTS 4096
 #define MASUVELIOR_MAX_TERMS 4096
 #define MASUVELIOR_MAX_CHOSEN 8
 #define MASUVELIOR_MAX_QUESTION 64
 #define MASUVELIOR_MAX_DEPTH 8
+#define MASUVELIOR_MAX_SET 64
 
 /* The marks in a question with and, or, not. A number below MASUVELIOR_MAX_TERMS is a term. */
 #define MASUVELIOR_AND 60000
@@ -83,7 +86,7 @@
 extern "C" {
 #endif
 
-/* Why an operation refused. The lowest number that applies is given, but 18 comes before 11 and 12. */
+/* Why an operation refused. The lowest number that applies is given, but 18 comes before 11 and 12, and 19 before 11. */
 enum masuvelior_refusal {
   MASUVELIOR_OK = 0, /* not refused */
   /* opening */
@@ -108,7 +111,9 @@ enum masuvelior_refusal {
   MASUVELIOR_REFUSED_WRITER_LENGTHS = 16, /* the term lengths do not add up to n */
   MASUVELIOR_REFUSED_WRITER_TARGET = 17, /* the target is shorter than the archive */
   /* a question with and, or, not */
-  MASUVELIOR_REFUSED_QUESTION = 18 /* a question that is empty, too long, too deep or without a reading */
+  MASUVELIOR_REFUSED_QUESTION = 18, /* a question that is empty, too long, too deep or without a reading */
+  /* a set of documents */
+  MASUVELIOR_REFUSED_SET = 19 /* a set that is too long or not strictly ascending */
 };
 
 /* ---- the archive */
@@ -144,9 +149,20 @@ uint32_t masuvelior_read(const uint8_t *archive, size_t archive_length,
 MASUVELIOR_MUST_USE
 uint32_t masuvelior_access(const uint8_t *archive, size_t archive_length, uint32_t place, uint32_t *document);
 
-/* The count of a document before a place, which may be n. 11: document N or more, place above n. Cost: 3 * h ranks. */
+/* The count of a document before a place, which may be n. 11: document N or more, place above n. Cost: 3 ranks a row, 2 in the
+ * last. */
 MASUVELIOR_MUST_USE
 uint32_t masuvelior_rank(const uint8_t *archive, size_t archive_length, uint32_t document, uint32_t place, uint32_t *count);
+
+/* How many entries before a place, which may be n, belong to a set of documents, each entry once. A set is up to 64 documents, strictly
+ * ascending. An empty one counts 0; all N documents, where they are 64 or fewer, count place. 19, before 11: a set that is too long or not
+ * strictly ascending. 11: a document N or more, place above n.
+ * Cost: the set is read once, and for each row at most once more. Then one descent for the whole set, through at most h nodes of the tree
+ * for each document: 3 ranks where the set goes to one half of a node, 4 where it parts. Where all numbers of a node are in the set, 2 in
+ * the row above it, and nothing at and below it; where the set parts, nothing in a half without an entry before the place. */
+MASUVELIOR_MUST_USE
+uint32_t masuvelior_rank_set(const uint8_t *archive, size_t archive_length, const uint32_t *set, size_t set_length, uint32_t place,
+                             uint32_t *count);
 
 /* The place of the j-th entry of a document, j from 1; n, one past the end, where it has fewer, and nowhere else. So a walk over its places,
  * j = 1, 2, .., ends at n. 11: document N or more, j 0.
@@ -263,7 +279,7 @@ uint32_t masuvelior_weighted(const uint8_t *archive, size_t archive_length, cons
 /* ---- the same for an archive that was opened before, without the check
  *
  * What the caller keeps beside the above: masuvelior_open answered 0 for these very bytes and this length, and they are unchanged since.
- * Then each answers, writes and refuses (10 to 13, and 18) as its namesake above. Of other bytes nothing is promised. */
+ * Then each answers, writes and refuses (10 to 13, 18 and 19) as its namesake above. Of other bytes nothing is promised. */
 
 MASUVELIOR_MUST_USE
 uint32_t masuvelior_opened_read(const uint8_t *archive, size_t archive_length,
@@ -275,6 +291,10 @@ uint32_t masuvelior_opened_access(const uint8_t *archive, size_t archive_length,
 
 MASUVELIOR_MUST_USE
 uint32_t masuvelior_opened_rank(const uint8_t *archive, size_t archive_length, uint32_t document, uint32_t place, uint32_t *count);
+
+MASUVELIOR_MUST_USE
+uint32_t masuvelior_opened_rank_set(const uint8_t *archive, size_t archive_length, const uint32_t *set, size_t set_length, uint32_t place,
+                                    uint32_t *count);
 
 MASUVELIOR_MUST_USE
 uint32_t masuvelior_opened_select(const uint8_t *archive, size_t archive_length, uint32_t document, uint32_t j, uint32_t *place);

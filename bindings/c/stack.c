@@ -7,12 +7,13 @@
 #include <ucontext.h>
 
 enum { STACK = 1 << 17, PAINT = 0xA5, N = MASUVELIOR_MAX_DOCUMENTS, W = MASUVELIOR_MAX_TERMS, ENTRIES = MASUVELIOR_MAX_ENTRIES };
-enum { WRITER = 25 * 1024, BOOLEAN = 22 * 1024, READER = 17 * 1024, WEIGHTED = 7 * 1024, OTHER = 4 * 1024 };
+enum { WRITER = 25 * 1024, BOOLEAN = 22 * 1024, READER = 17 * 1024, WEIGHTED = 7 * 1024, RANK_SET = 6 * 1024, OTHER = 4 * 1024 };
 
 /* A library at every limit, with entries in every node: calls go all their way. */
 static uint32_t entries[ENTRIES], lengths[W], answers[2 * N], work[4 * N], listed, spent, number;
 static const uint32_t chosen[MASUVELIOR_MAX_CHOSEN] = {0, 1, 2, 3, 4, 5, 6, 7};
 static uint16_t question[MASUVELIOR_MAX_QUESTION];
+static uint32_t set[MASUVELIOR_MAX_SET];
 static uint8_t archive[1 << 18];
 static size_t size, needed;
 
@@ -29,6 +30,15 @@ static void make_question(void) {
   question[LAST] = 0;
 }
 
+/* The set that is followed deepest: on the way to the last document it parts at every node but the lowest, where that one is left alone. Before
+ * the twelve documents for it stand as many others as there is room for. */
+static void make_set(void) {
+  enum { ROWS = 12, OTHERS = MASUVELIOR_MAX_SET - ROWS };
+  for (uint32_t i = 0; i < OTHERS; i++) set[i] = 39 * i;
+  for (uint32_t i = 0; i < ROWS - 1; i++) set[OTHERS + i] = N - 1 - (N / 2 >> i);
+  set[MASUVELIOR_MAX_SET - 1] = N - 1;
+}
+
 /* Every function: the end of its name, its bound, the call. */
 #define BYTES archive, size
 #define PAIRS answers, 2 * N, &listed
@@ -37,6 +47,7 @@ static void make_question(void) {
   X(form##read, READER, (BYTES, entries, ENTRIES, lengths, W, &listed, &spent, &number))                     \
   X(form##access, OTHER, (BYTES, 12345, &number))                                                            \
   X(form##rank, OTHER, (BYTES, 1234, 56789, &number))                                                        \
+  X(form##rank_set, RANK_SET, (BYTES, set, MASUVELIOR_MAX_SET, 56789, &number))                              \
   X(form##select, OTHER, (BYTES, 1234, 3, &number))                                                          \
   X(form##quantile, OTHER, (BYTES, 1, 60000, 3456, &number))                                                 \
   X(form##quantile_terms, OTHER, (BYTES, 0, W - 1, 3456, &number))                                           \
@@ -93,6 +104,7 @@ int main(void) {
   int failed = 0;
   make_library();
   make_question();
+  make_set();
   for (size_t i = 0; i < count; i++) {
     size_t bytes = used(calls[i].call);
     if (calls[i].bound == OTHER && bytes > deepest) deepest = bytes;
@@ -102,6 +114,6 @@ int main(void) {
       failed = 1;
     }
   }
-  printf("stack: the deepest of the %zu others takes %zu bytes\n", count - 7, deepest);
+  printf("stack: the deepest of the %zu others takes %zu bytes\n", count - 9, deepest);
   return failed;
 }

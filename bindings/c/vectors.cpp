@@ -56,6 +56,21 @@ void ask(std::vector<uint8_t> &archive) {
   expect("no terms to weigh", nothing == MASUVELIOR_REFUSED_TERM_COUNT && listed == 0);
 }
 
+// Sets of documents: an empty one counts 0, and is refused where the place is past the end; one that does not ascend is refused before that.
+void count(std::vector<uint8_t> &archive) {
+  uint32_t counted = 9;
+  const std::vector<uint32_t> none, all = {0, 1, 2, 3, 4}, repeated = {4, 4};
+  const uint32_t past = masuvelior_rank_set(lent(archive), archive.size(), lent(none), none.size(), 1, &counted);
+  expect("past the end", past == MASUVELIOR_REFUSED_ARGUMENT && counted == 9);
+  const uint32_t twice = masuvelior_opened_rank_set(lent(archive), archive.size(), lent(repeated), repeated.size(), 1, &counted);
+  expect("a document twice", twice == MASUVELIOR_REFUSED_SET && counted == 9);
+  const uint32_t empty = masuvelior_rank_set(lent(archive), archive.size(), lent(none), none.size(), 0, &counted);
+  expect("an empty set", empty == MASUVELIOR_OK && counted == 0);
+  counted = 9;
+  const uint32_t whole = masuvelior_opened_rank_set(lent(archive), archive.size(), lent(all), all.size(), 0, &counted);
+  expect("all documents", whole == MASUVELIOR_OK && counted == 0);
+}
+
 // Questions with and, or, not: an empty one is refused before an empty answer slice is, and 'not' lists every document where a term has none.
 void match(std::vector<uint8_t> &archive) {
   uint32_t listed = 9;
@@ -79,6 +94,7 @@ int main() {
   expect("no bytes", masuvelior_open(lent(empty), empty.size(), &n, &documents, &terms) == MASUVELIOR_REFUSED_TOO_SHORT);
   std::vector<uint8_t> archive = without_entries();
   ask(archive);
+  count(archive);
   match(archive);
   expect("macros of lengths of top-k", MASUVELIOR_TOP_K_LENGTH(UINT32_MAX, 4u) == 8 && MASUVELIOR_TOP_K_LENGTH(3, 4) == 6);
   expect("macros of lengths", MASUVELIOR_LIST_LENGTH(4) == 8 && MASUVELIOR_BOOLEAN_LENGTH(4) == 4);

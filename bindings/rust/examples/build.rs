@@ -49,6 +49,11 @@ fn main() -> Result<(), Box<dyn Error>> {
         println!("  {}", TEXTS[document as usize]);
     }
 
+    // Three texts counted as one: what is before the end of 'the', without what is before its start.
+    let the = archive.range_of_terms(numbers["the"]..=numbers["the"])?;
+    let [before, through] = [the.start, the.end].map(|place| archive.rank_set(&[0, 1, 3], place));
+    println!("'the' in the first, the second and the fourth text: {} times", through? - before?);
+
     // Neighbours in the dictionary are one range: 'storm' to 'tide' has 'the' between them.
     let range = numbers["storm"]..=numbers["tide"];
     let size = archive.range_of_terms(range.clone())?.len() as u32;

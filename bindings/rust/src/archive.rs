@@ -17,6 +17,7 @@ use std::fmt;
 ///
 /// assert_eq!(archive.access(4), Ok(2)); // entry at 4
 /// assert_eq!(archive.rank(3, 3), Ok(1)); // count of 3 before 3
+/// assert_eq!(archive.rank_set(&[0, 3], 3), Ok(2)); // count of 0 and 3 together
 /// assert_eq!(archive.select(0, 2), Ok(7)); // place of the second 0
 /// assert_eq!(archive.select(0, 3), Ok(8)); // there is no third: n
 /// assert_eq!(archive.quantile(Entries(0..8), 4), Ok(2)); // the fifth, if they were sorted

@@ -21,7 +21,7 @@ pub enum Argument {
     Place,
     /// The place before which entries are counted is above n.
     Before,
-    /// The document is N or more.
+    /// The document, or one of a set, is N or more.
     Document,
     /// j, the number of an occurrence, is 0.
     Occurrence,

@@ -19,6 +19,7 @@
 //! let archive = Archive::open(&bytes)?;
 //!
 //! assert_eq!(archive.rank(3, 8)?, 3); // document 3 occurs three times
+//! assert_eq!(archive.rank_set(&[0, 3], 8)?, 5); // documents 0 and 3 together, five times
 //! assert_eq!(archive.conjunction(&[0, 2])?, [(0, 2), (1, 2), (3, 3)]); // documents under both terms
 //!
 //! // The two most frequent documents of all terms. Nine nodes may be opened, three are.

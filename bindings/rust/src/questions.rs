@@ -21,7 +21,7 @@ impl Archive<'_> {
         outcome(answer, document).map_err(|refusal| refusal.about(|| Argument::Place))
     }
 
-    /// How many entries before a place are this document; the place may be n. Cost: 3 × h ranks.
+    /// How many entries before a place are this document; the place may be n. Cost: 3 ranks a row, 2 in the last.
     ///
     /// # Errors
     /// 11 where the document is N or more, or the place is above n.
@@ -31,6 +31,43 @@ impl Archive<'_> {
         // SAFETY: POINTERS, WRITTEN and CONST by the references; OPENED by `Archive::open`, the only maker of an `Archive`.
         let answer = unsafe { sys::masuvelior_opened_rank(archive, length, document, place, &mut count) };
         outcome(answer, count).map_err(|refusal| refusal.about(|| self.fault(document, Argument::Before)))
+    }
+
+    /// How many entries before a place belong to a set of documents, each entry once; the place may be n. A set is up to 64 documents,
+    /// strictly ascending. An empty one counts 0; all N documents, where they are 64 or fewer, count `place`.
+    ///
+    /// Cost: the set is read once, and for each row at most once more. Then one descent for the whole set, through at most h nodes of the
+    /// tree for each document: 3 ranks where the set goes to one half of a node, 4 where it parts. Where all numbers of a node are in the
+    /// set, 2 in the row above it, and nothing at and below it; where the set parts, nothing in a half without an entry before the place.
+    ///
+    /// ```
+    /// use masuvelior::{write, Archive, Argument, Refusal};
+    ///
+    /// let bytes = write(&[3, 1, 0, 3, 2, 1, 3, 0], &[3, 0, 5], 4)?;
+    /// let archive = Archive::open(&bytes)?;
+    ///
+    /// assert_eq!(archive.rank_set(&[0, 3], 8)?, 5);
+    /// assert_eq!(archive.rank_set(&[0, 3], 3)?, 2); // of 3, 1, 0
+    /// assert_eq!(archive.rank_set(&[3], 8)?, archive.rank(3, 8)?);
+    /// assert_eq!(archive.rank_set(&[], 8)?, 0);
+    /// assert_eq!(archive.rank_set(&[0, 1, 2, 3], 5)?, 5);
+    ///
+    /// assert_eq!(archive.rank_set(&[3, 0], 8), Err(Refusal::Set));
+    /// assert_eq!(archive.rank_set(&[0, 4], 8), Err(Refusal::Argument(Argument::Document)));
+    /// # Ok::<(), Refusal>(())
+    /// ```
+    ///
+    /// # Errors
+    /// 19 for a set that is too long or not strictly ascending; else 11 where a document is N or more, or the place is above n.
+    pub fn rank_set(&self, set: &[u32], place: u32) -> Result<u32, Refusal> {
+        let (archive, length) = self.lent();
+        let mut count = 0;
+        // SAFETY: POINTERS, WRITTEN and CONST by the references; OPENED by `Archive::open`, the only maker of an `Archive`.
+        let answer =
+            unsafe { sys::masuvelior_opened_rank_set(archive, length, set.as_ptr(), set.len(), place, &mut count) };
+        // What is refused as 11 ascends, so that its last document is the largest.
+        let largest = set.last().copied().unwrap_or(0);
+        outcome(answer, count).map_err(|refusal| refusal.about(|| self.fault(largest, Argument::Before)))
     }
 
     /// The place of the j-th entry that is this document, j from 1; n, one past the end, where there are fewer, and nowhere else. So a walk

@@ -3,7 +3,7 @@ use crate::argument::Argument;
 use std::error::Error;
 use std::fmt;
 
-/// A refusal: the lowest number of the table that applies, but 18 comes before 11 and 12. Nothing was written.
+/// A refusal: the lowest number of the table that applies, but 18 comes before 11 and 12, and 19 before 11. Nothing was written.
 ///
 /// ```
 /// use masuvelior::{Archive, Refusal};
@@ -52,11 +52,13 @@ pub enum Refusal {
     WriterTarget,
     /// 18, a question with and, or, not: it is empty, too long, too deep or without a reading.
     Question,
+    /// 19, a set of documents: it is too long or not strictly ascending.
+    Set,
 }
 
 impl Refusal {
     /// Every refusal, by number; the argument of 11 has no name there.
-    pub const ALL: [Refusal; 18] = [
+    pub const ALL: [Refusal; 19] = [
         Refusal::TooShort,
         Refusal::Edition,
         Refusal::Limits,
@@ -75,9 +77,10 @@ impl Refusal {
         Refusal::WriterLengths,
         Refusal::WriterTarget,
         Refusal::Question,
+        Refusal::Set,
     ];
 
-    /// Its number in the table, 1 to 18.
+    /// Its number in the table, 1 to 19.
     pub fn number(self) -> u32 {
         self.row().0
     }
@@ -114,6 +117,7 @@ impl Refusal {
             Refusal::WriterLengths => (16, "the term lengths do not add up to n"),
             Refusal::WriterTarget => (17, "the target is shorter than the archive"),
             Refusal::Question => (18, "a question that is empty, too long, too deep or without a reading"),
+            Refusal::Set => (19, "a set that is too long or not strictly ascending"),
         }
     }
 

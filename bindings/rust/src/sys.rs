@@ -30,6 +30,7 @@ declare! {
 declare! {
     masuvelior_access(archive: *const u8, archive_length: usize, place: u32, document: *mut u32);
     masuvelior_rank(archive: *const u8, archive_length: usize, document: u32, place: u32, count: *mut u32);
+    masuvelior_rank_set(archive: *const u8, archive_length: usize, set: *const u32, set_length: usize, place: u32, count: *mut u32);
     masuvelior_select(archive: *const u8, archive_length: usize, document: u32, j: u32, place: *mut u32);
     masuvelior_quantile(archive: *const u8, archive_length: usize, a: u32, b: u32, r: u32, document: *mut u32);
     masuvelior_quantile_terms(archive: *const u8, archive_length: usize, first: u32, last: u32, r: u32, document: *mut u32);
@@ -50,6 +51,7 @@ declare! {
     masuvelior_opened_read(archive: *const u8, archive_length: usize, entries: *mut u32, entries_length: usize, lengths: *mut u32, lengths_length: usize, n: *mut u32, documents: *mut u32, terms: *mut u32);
     masuvelior_opened_access(archive: *const u8, archive_length: usize, place: u32, document: *mut u32);
     masuvelior_opened_rank(archive: *const u8, archive_length: usize, document: u32, place: u32, count: *mut u32);
+    masuvelior_opened_rank_set(archive: *const u8, archive_length: usize, set: *const u32, set_length: usize, place: u32, count: *mut u32);
     masuvelior_opened_select(archive: *const u8, archive_length: usize, document: u32, j: u32, place: *mut u32);
     masuvelior_opened_quantile(archive: *const u8, archive_length: usize, a: u32, b: u32, r: u32, document: *mut u32);
     masuvelior_opened_quantile_terms(archive: *const u8, archive_length: usize, first: u32, last: u32, r: u32, document: *mut u32);

@@ -21,11 +21,14 @@ fn of_one_number() {
     let archive = Archive::open(&bytes).unwrap();
     for x in EDGES {
         hold(archive.access(x), &[(x >= 8, Argument::Place)]);
+        hold(archive.rank_set(&[], x), &[(x > 8, Argument::Before)]);
         hold(archive.conjunction(&[0, x]), &[(x >= 3, Argument::Term)]);
         hold(archive.weighted(&[x, 2], 2, 9), &[(x >= 3, Argument::Term)]);
         hold(archive.boolean(Expr::term(x.min(4_095)).or(Expr::term(2)).numbers()), &[(x >= 3, Argument::Term)]);
         for y in EDGES {
             hold(archive.rank(x, y), &[(x >= 4, Argument::Document), (y > 8, Argument::Before)]);
+            hold(archive.rank_set(&[x], y), &[(x >= 4, Argument::Document), (y > 8, Argument::Before)]);
+            hold(archive.rank_set(&[1, x.max(2)], y), &[(x >= 4, Argument::Document), (y > 8, Argument::Before)]);
             hold(archive.select(x, y), &[(x >= 4, Argument::Document), (y == 0, Argument::Occurrence)]);
             hold(per_mille(x, y), &[(y == 0, Argument::Size), (x > y, Argument::Count)]);
         }

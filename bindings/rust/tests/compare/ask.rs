@@ -114,6 +114,7 @@ fn numbers(archive: &Archive, question: &Question) -> Result<Answer, Refusal> {
     let numbers = match *question {
         Question::Access { place } => vec![archive.access(place)?],
         Question::Rank { document, place } => vec![archive.rank(document, place)?],
+        Question::RankSet { ref set, place } => vec![archive.rank_set(set, place)?],
         Question::Select { document, j } => vec![archive.select(document, j)?],
         Question::Quantile { span, r } => vec![archive.quantile(over(span), r)?],
         Question::RangeOfTerms { first, last } => {

@@ -17,6 +17,7 @@ mod raw;
 mod readings;
 mod repeats;
 mod scores;
+mod sets;
 mod sweep;
 mod threads;
 mod weighted;

@@ -19,7 +19,7 @@ fn sentences_are_those_in_print() {
         assert!(FORMAT.contains(&line), "docs/FORMAT.md has no: {line}");
     }
     assert_eq!(Refusal::from_number(0), None);
-    assert_eq!(Refusal::from_number(19), None);
+    assert_eq!(Refusal::from_number(20), None);
     for argument in Argument::ALL {
         assert!(words().contains(argument.sentence()), "docs/FORMAT.md has no: {argument}");
     }
@@ -139,6 +139,21 @@ fn boolean_of_the_small_library() -> Result<(), Refusal> {
         assert_eq!(archive.boolean(question), Err(Refusal::Question), "{question:?}");
     }
     assert_eq!(archive.boolean(&[3]), Err(Refusal::Argument(Argument::Term)));
+    Ok(())
+}
+
+#[test]
+fn sets_of_the_small_library() -> Result<(), Refusal> {
+    let bytes = write(&[3, 1, 0, 3, 2, 1, 3, 0], &[3, 0, 5], 4)?;
+    let archive = Archive::open(&bytes)?;
+    assert_eq!((archive.rank_set(&[0, 3], 8)?, archive.rank_set(&[0, 3], 3)?), (5, 2));
+    assert_eq!((archive.rank_set(&[], 8)?, archive.rank_set(&[0, 1, 2, 3], 5)?), (0, 5));
+    let refused: [&[u32]; 3] = [&[3, 0], &[1, 1], &[2, 1, 7]];
+    for set in refused {
+        assert_eq!(archive.rank_set(set, 8), Err(Refusal::Set), "{set:?}");
+    }
+    assert_eq!(archive.rank_set(&[4], 8), Err(Refusal::Argument(Argument::Document)));
+    assert_eq!(archive.rank_set(&[], 9), Err(Refusal::Argument(Argument::Before)));
     Ok(())
 }
 

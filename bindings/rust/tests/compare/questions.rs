@@ -16,6 +16,7 @@ pub enum Question {
     Read,
     Access { place: u32 },
     Rank { document: u32, place: u32 },
+    RankSet { set: Vec<u32>, place: u32 },
     Select { document: u32, j: u32 },
     Quantile { span: Span, r: u32 },
     List { span: Span },
@@ -47,12 +48,14 @@ pub struct Answer {
 
 pub type Pairs = Vec<(u32, u32)>;
 
-/// What the library answers, or the number of the refusal: the lowest that applies, but 18 before 11 and 12.
+/// What the library answers, or the number of the refusal: the lowest that applies, but 18 before 11 and 12, and 19 before
+/// 11.
 pub fn answer(library: &Library, question: &Question, lent: Lent) -> Result<Answer, u32> {
     match question {
         Question::Read => read(library, lent),
         Question::Access { place } => one(access(library, *place)),
         Question::Rank { document, place } => one(rank(library, *document, *place)),
+        Question::RankSet { set, place } => one(rank_set(library, set, *place)),
         Question::Select { document, j } => one(select(library, *document, *j)),
         Question::Quantile { span, r } => one(quantile(library, *span, *r)),
         Question::List { span } => {
@@ -145,6 +148,18 @@ fn rank(library: &Library, document: u32, place: u32) -> Result<u32, u32> {
     }
     let before = &library.entries[..place as usize];
     Ok(before.iter().filter(|entry| **entry == document).count() as u32)
+}
+
+/// How many entries before a place are in the set.
+fn rank_set(library: &Library, set: &[u32], place: u32) -> Result<u32, u32> {
+    if set.len() > 64 || set.windows(2).any(|two| two[0] >= two[1]) {
+        return Err(19);
+    }
+    if set.iter().any(|document| *document >= library.documents) || place as usize > library.entries.len() {
+        return Err(11);
+    }
+    let before = &library.entries[..place as usize];
+    Ok(before.iter().filter(|entry| set.contains(entry)).count() as u32)
 }
 
 /// n where the document has fewer than j entries.

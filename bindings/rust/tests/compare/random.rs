@@ -2,6 +2,7 @@
 use crate::library::Library;
 use crate::questions::{Lent, Question, Span};
 use masuvelior::marks::{AND, CLOSE, NOT, OPEN, OR};
+use std::collections::BTreeSet;
 
 /// A xorshift generator.
 pub struct Random(u64);
@@ -103,7 +104,7 @@ pub fn question(random: &mut Random, library: &Library) -> Question {
     let n = library.entries.len() as u32;
     let (documents, terms) = (library.documents, library.lengths.len() as u32);
     let span = span(random, library);
-    match random.below(16) {
+    match random.below(18) {
         0 => Question::Read,
         1 => Question::Access { place: random.near(n) },
         2 => Question::Rank { document: random.near(documents), place: random.near(n + 1) },
@@ -115,7 +116,37 @@ pub fn question(random: &mut Random, library: &Library) -> Question {
         8 | 9 => Question::Conjunction { terms: chosen(random, terms) },
         10 | 11 => weighted(random, library),
         12 | 13 => boolean(random, terms),
+        14 | 15 => rank_set(random, library),
         _ => Question::Greedy { span, k: random.near(documents + 1), allowance: random.near(2 * documents) },
+    }
+}
+
+/// The count of a set: mostly one that is answered.
+pub fn rank_set(random: &mut Random, library: &Library) -> Question {
+    let mut set = set(random, library.documents);
+    if random.one_in(8) {
+        spoil_set(random, library.documents, &mut set);
+    }
+    Question::RankSet { set, place: random.near(library.entries.len() as u32 + 1) }
+}
+
+/// Up to 64 documents, ascending: all over the library, or near each other.
+pub fn set(random: &mut Random, documents: u32) -> Vec<u32> {
+    let size = random.of_bits(7).min(64);
+    let among = (1 + random.of_bits(12)).min(documents);
+    let from = random.below(documents - among + 1);
+    let set: BTreeSet<u32> = (0..size).map(|_| from + random.below(among)).collect();
+    set.into_iter().collect()
+}
+
+/// Puts a number before, between or behind those of the set, turns a part of it around, or makes it longer.
+fn spoil_set(random: &mut Random, documents: u32, set: &mut Vec<u32>) {
+    let place = random.below(set.len() as u32 + 1) as usize;
+    match random.below(4) {
+        0 => set.insert(place, random.near(documents)),
+        1 => set.push(random.near(documents)),
+        2 => set[place..].reverse(),
+        _ => set.extend((documents..).take(64 - place.min(4))),
     }
 }
 

@@ -40,9 +40,9 @@ fn ends(span: Span) -> (u32, u32) {
     }
 }
 
-/// The terms, and behind them numbers that are no terms: those past the length are not to be looked at.
-fn with_more(terms: &[u32]) -> Vec<u32> {
-    [terms, &[u32::MAX; 8]].concat()
+/// The terms or documents, and behind them numbers that are none: those past the length are not to be looked at.
+fn with_more(numbers: &[u32]) -> Vec<u32> {
+    [numbers, &[u32::MAX; 8]].concat()
 }
 
 /// The question, and behind it what would make another of it.
@@ -76,6 +76,11 @@ fn numbers(bytes: &[u8], form: Form, question: &Question, out: &mut [u32; 3]) ->
             Question::Rank { document, place } => {
                 let ask = function!(form; masuvelior_rank, masuvelior_opened_rank);
                 ask(archive, length, document, place, x)
+            }
+            Question::RankSet { ref set, place } => {
+                let ask = function!(form; masuvelior_rank_set, masuvelior_opened_rank_set);
+                let more = with_more(set);
+                ask(archive, length, more.as_ptr(), set.len(), place, x)
             }
             Question::Select { document, j } => {
                 let ask = function!(form; masuvelior_select, masuvelior_opened_select);

@@ -3,6 +3,7 @@ use crate::compare::{assert_met, compare, compare_random, needed, Met};
 use crate::library::{archive, Library};
 use crate::questions::{per_mille, Question, Span};
 use crate::random::{library, Random};
+use crate::sets::subsets;
 use crate::{quick, rounds};
 use masuvelior::marks::{AND, CLOSE, NOT, OPEN, OR};
 use masuvelior::{Archive, Refusal};
@@ -32,6 +33,9 @@ fn every_question(library: &Library) -> Vec<Question> {
         all.extend(around(n).map(|place| Question::Rank { document, place }));
         all.extend(around(n).map(|j| Question::Select { document, j }));
     }
+    for set in sets(documents) {
+        all.extend(around(n).map(|place| Question::RankSet { set: set.clone(), place }));
+    }
     for a in around(n) {
         for b in around(n) {
             of_range(Span::Entries(a, b), library, &mut all);
@@ -48,6 +52,16 @@ fn every_question(library: &Library) -> Vec<Question> {
     for size in 0..10 {
         let terms: Vec<u32> = (0..size).map(|i| i % terms).collect();
         of_terms(&terms, library, &mut all);
+    }
+    all
+}
+
+/// Every set of the first four documents and the first number that is none, and every two of these in the wrong order, or one of them twice.
+fn sets(documents: u32) -> Vec<Vec<u32>> {
+    let numbers: Vec<u32> = (0..documents.min(4)).chain([documents]).collect();
+    let mut all = subsets(&numbers);
+    for (i, x) in numbers.iter().enumerate() {
+        all.extend(numbers[..=i].iter().map(|y| vec![*x, *y]));
     }
     all
 }
@@ -119,7 +133,7 @@ fn every_question_of_small_libraries() {
     }
     assert_met(&met, 0..=0);
     assert_met(&met, 10..=11);
-    assert_met(&met, 18..=18);
+    assert_met(&met, 18..=19);
 }
 
 #[test]
@@ -136,7 +150,7 @@ fn random_questions_of_small_libraries() {
     }
     assert_met(&met, 0..=0);
     assert_met(&met, 10..=13);
-    assert_met(&met, 18..=18);
+    assert_met(&met, 18..=19);
 }
 
 /// n at the edges of bytes and samples, N at powers of two and beside them.
