@@ -1,5 +1,5 @@
 // The operations on an archive as C sees them: a slice is its first element and its length, and the levels of an opened archive are numbers.
-// ours.cpp, and peer.cpp with weighted.cpp and boolean.cpp, have them under a prefix for each way that they are compiled.
+// ours.cpp, and peer.cpp with weighted.cpp, boolean.cpp and rank_set.cpp, have them under a prefix for each way that they are compiled.
 #pragma once
 #include <stddef.h>
 #include <stdint.h>
@@ -14,6 +14,8 @@ typedef size_t write_fn(const uint32_t *entries, size_t n, const uint32_t *lengt
 typedef void read_fn(LEVELS, size_t documents, uint32_t *entries, size_t entries_len, uint32_t *lengths, size_t terms);
 typedef size_t access_fn(LEVELS, size_t i);
 typedef size_t rank_fn(LEVELS, size_t d, size_t i);
+// How many of the entries before the place belong to a set of so many documents, ascending.
+typedef size_t rank_set_fn(LEVELS, const uint32_t *set, size_t size, size_t place);
 // The place of the i-th entry d, i from 1; n where there is none.
 typedef size_t select_fn(LEVELS, size_t d, size_t i);
 // The document.
@@ -33,7 +35,7 @@ typedef size_t boolean_fn(LEVELS, size_t documents, size_t terms, const uint16_t
 // All of them, under the prefix that F puts before a name.
 #define JOIN_(p, f) p##_##f
 #define JOIN(p, f) JOIN_(p, f)
-#define DECLARE_OPERATIONS open_fn F(open); write_fn F(write); read_fn F(read); access_fn F(access); rank_fn F(rank); select_fn F(select); quantile_fn F(quantile); list_fn F(list); conjunction_fn F(conjunction); greedy_fn F(greedy); probing_fn F(probing); weighted_fn F(weighted); boolean_fn F(boolean);
+#define DECLARE_OPERATIONS open_fn F(open); write_fn F(write); read_fn F(read); access_fn F(access); rank_fn F(rank); rank_set_fn F(rank_set); select_fn F(select); quantile_fn F(quantile); list_fn F(list); conjunction_fn F(conjunction); greedy_fn F(greedy); probing_fn F(probing); weighted_fn F(weighted); boolean_fn F(boolean);
 
 struct Operations {
   open_fn *open;
@@ -41,6 +43,7 @@ struct Operations {
   read_fn *read;
   access_fn *access;
   rank_fn *rank;
+  rank_set_fn *rank_set;
   select_fn *select;
   quantile_fn *quantile;
   list_fn *list;

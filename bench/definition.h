@@ -1,4 +1,4 @@
-// What select, the conjunction, the searches and questions with and, or, not answer by the definitions in docs/FORMAT.md: from the list alone, sharing nothing with a contender.
+// What select, the count of a set, the conjunction, the searches and questions with and, or, not answer by the definitions in docs/FORMAT.md: from the list alone, sharing nothing with a contender.
 #pragma once
 #include <algorithm>
 #include <iterator>
@@ -17,6 +17,15 @@ inline Numbers places_of(const Numbers &list, uint32_t d) {
     if (list[i] == d) places.push_back((uint32_t)i);
   places.push_back((uint32_t)list.size());
   return places;
+}
+
+typedef std::set<uint32_t> Documents;
+
+// How many of the entries before a place belong to a set of documents.
+inline uint32_t count_of_set(const Numbers &list, const Documents &set, size_t place) {
+  uint32_t count = 0;
+  for (size_t i = 0; i < place; i++) count += (uint32_t)set.count(list[i]);
+  return count;
 }
 
 // What the terms of a question come to: a repeated term counts once.
@@ -38,7 +47,6 @@ inline const uint16_t *last_outside(const uint16_t *a, const uint16_t *b, uint16
 
 // The documents that match a part of a question with a reading: where it has an or outside brackets, the last of them parts it, else the last and;
 // else it is not with what that is of, a bracket or a word.
-typedef std::set<uint32_t> Documents;
 template <class Under> Documents matching(const uint16_t *a, const uint16_t *b, const Documents &all, Under under) {
   auto part = [&](const uint16_t *from, const uint16_t *to) { return matching(from, to, all, under); };
   Documents found;

@@ -49,6 +49,12 @@ size_t F(rank)(LEVELS_UNUSED, size_t d, size_t i) {
   return count;
 }
 
+size_t F(rank_set)(LEVELS_UNUSED, const u32 *set, size_t size, size_t place) {
+  u32 count = 0;
+  answered(ASK(rank_set)(bytes, len, set, size, (u32)place, &count));
+  return count;
+}
+
 size_t F(select)(LEVELS_UNUSED, size_t d, size_t i) {
   u32 place = 0;
   answered(ASK(select)(bytes, len, (u32)d, (u32)i, &place));

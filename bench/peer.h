@@ -159,15 +159,34 @@ INLINE Span half(const Halves &h, u32 one) {
   return {pick(one, h.high.start, h.low.start), pick(one, h.high.lo, h.low.lo), pick(one, h.high.hi, h.low.hi), pick(one, h.high.end, h.low.end)};
 }
 
+// Where the halves of a node meet, and its ones before a place.
+struct Cut { u32 middle, ones; };
+
+// Of place p of a node of level j, which spans start to end.
+INLINE Cut cut(const Levels &t, u32 j, u32 start, u32 end, u32 p) {
+  Row r = row_of(t, j);
+  u32 before = rank1(r, start), at = rank1_from(r, start, before, p), all = rank1_from(r, p, at, end);
+  return {end - (all - before), at - before};
+}
+
+// From such a place to its place in the half that a bit leads to.
+INLINE void step(const Levels &t, u32 j, u32 one, u32 &start, u32 &end, u32 &p) {
+  Cut c = cut(t, j, start, end, p);
+  p = pick(one, c.middle + c.ones, p - c.ones);
+  start = pick(one, c.middle, start);
+  end = pick(one, end, c.middle);
+}
+
+// Of such a place: how many entries of that half are before it. Ones or zeros of the row are enough.
+INLINE u32 count_half(const Levels &t, u32 j, u32 one, u32 start, u32 p) {
+  u32 high = ones_in(row_of(t, j), start, p);
+  return pick(one, high, p - start - high);
+}
+
 // Follows place p of the node q of level j, which spans start to end, to its half.
 INLINE void follow(const Levels &t, u32 j, u32 &q, u32 &start, u32 &end, u32 &p) {
-  Row r = row_of(t, j);
-  u32 one = bit(r, p), before = rank1(r, start), at = rank1_from(r, start, before, p), all = rank1_from(r, p, at, end);
-  u32 middle = end - (all - before);
-  at -= before;
-  p = pick(one, middle + at, p - at);
-  start = pick(one, middle, start);
-  end = pick(one, end, middle);
+  u32 one = bit(row_of(t, j), p);
+  step(t, j, one, start, end, p);
   q = 2 * q + one;
 }
 

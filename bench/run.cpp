@@ -19,8 +19,8 @@
 Contender scan_contender();
 extern "C" void sdsl_plain(Contender *), sdsl_popcnt(Contender *);
 
-#define PEER(p) extern "C" { open_fn p##_open; write_fn p##_write; read_fn p##_read; access_fn p##_access; rank_fn p##_rank; select_fn p##_select; quantile_fn p##_quantile; list_fn p##_list; conjunction_fn p##_conjunction; greedy_fn p##_greedy; probing_fn p##_probing; weighted_fn p##_weighted; boolean_fn p##_boolean; } \
-  constexpr Operations p = {p##_open, p##_write, p##_read, p##_access, p##_rank, p##_select, p##_quantile, p##_list, p##_conjunction, p##_greedy, p##_probing, p##_weighted, p##_boolean};
+#define PEER(p) extern "C" { open_fn p##_open; write_fn p##_write; read_fn p##_read; access_fn p##_access; rank_fn p##_rank; rank_set_fn p##_rank_set; select_fn p##_select; quantile_fn p##_quantile; list_fn p##_list; conjunction_fn p##_conjunction; greedy_fn p##_greedy; probing_fn p##_probing; weighted_fn p##_weighted; boolean_fn p##_boolean; } \
+  constexpr Operations p = {p##_open, p##_write, p##_read, p##_access, p##_rank, p##_rank_set, p##_select, p##_quantile, p##_list, p##_conjunction, p##_greedy, p##_probing, p##_weighted, p##_boolean};
 
 PEER(tight_nopop)
 PEER(plain_nopop)
@@ -91,6 +91,13 @@ template <const Operations &F> struct Tree {
   }
   static uint64_t access(void *p, const Query &q, uint32_t *) { Archive &x = *(Archive *)p; return F.access(AT(x), q.a); }
   static uint64_t rank(void *p, const Query &q, uint32_t *) { Archive &x = *(Archive *)p; return F.rank(AT(x), q.x, q.a); }
+  static uint64_t rank_set(void *p, const Query &q, uint32_t *) { Archive &x = *(Archive *)p; return F.rank_set(AT(x), q.set, q.size, q.a); }
+  static uint64_t ranks(void *p, const Query &q, uint32_t *) {
+    Archive &x = *(Archive *)p;
+    uint64_t sum = 0;
+    for (size_t i = 0; i < q.size; i++) sum += F.rank(AT(x), q.set[i], q.a);
+    return sum;
+  }
   static uint64_t select(void *p, const Query &q, uint32_t *) { Archive &x = *(Archive *)p; return F.select(AT(x), q.x, q.a); }
   static uint64_t quantile(void *p, const Query &q, uint32_t *) { Archive &x = *(Archive *)p; return F.quantile(AT(x), q.a, q.b, q.x); }
   static uint64_t list(void *p, const Query &q, uint32_t *answers) {
@@ -118,7 +125,7 @@ template <const Operations &F> struct Tree {
     return F.boolean(AT(x), x.documents, x.terms, q.question, q.size, answers, x.documents);
   }
   static Contender contender(const char *name) {
-    return {name, build, drop, bytes, {open, write, read, access, rank, select, quantile, list, conjunction, greedy, probing, weighted, boolean}};
+    return {name, build, drop, bytes, {open, write, read, access, rank, rank_set, ranks, select, quantile, list, conjunction, greedy, probing, weighted, boolean}};
   }
 };
 
@@ -143,9 +150,7 @@ std::vector<Contender> contenders() {
                                 Tree<opened>::contender("ours"), Tree<checked>::contender("ours checked"), Tree<tight>::contender("tight"), Tree<plain>::contender("plain")};
 #ifdef BEFORE
   all.push_back(Tree<before>::contender("before"));
-#ifdef BEFORE_WITHOUT_BOOLEAN
-  all.back().ops[BOOLEAN] = nullptr;
-#endif
+  for (Op op : std::initializer_list<Op>{BEFORE_LACKS}) all.back().ops[op] = nullptr;
 #endif
 #ifdef SDSL
   Contender two[2];
@@ -230,7 +235,7 @@ struct Data {
 
 // ---- verification
 
-const char *NAMES[OPS] = {"open", "write", "read", "access", "rank", "select", "quantile", "list", "conjunction", "greedy", "probing", "weighted", "boolean"};
+const char *NAMES[OPS] = {"open", "write", "read", "access", "rank", "rank set", "rank each", "select", "quantile", "list", "conjunction", "greedy", "probing", "weighted", "boolean"};
 size_t comparisons = 0;
 
 void expect(bool right, const Contender &c, const char *what) {
@@ -248,6 +253,7 @@ Sums sums_of(const Data &data, Op op, const Query &q) {
 }
 
 bool takes_terms(Op op) { return op == CONJUNCTION || op == WEIGHTED; }
+bool takes_set(Op op) { return op == RANK_SET || op == RANKS; }
 
 // How many numbers are written for each that the result counts: a pair, a document, or none.
 size_t width(Op op) { return op == BOOLEAN ? 1 : op >= LIST ? 2 : 0; }
@@ -270,6 +276,41 @@ Query ask(const Question &numbers) {
   q.question = kept.back().data();
   q.size = (uint32_t)numbers.size();
   return q;
+}
+
+// The documents of a set are kept too. What stands behind them is none, and so an empty set has an address.
+Query ask_set(const Documents &set, size_t place) {
+  static std::deque<Numbers> kept;
+  kept.emplace_back(set.begin(), set.end());
+  kept.back().push_back(NO_BOUND);
+  Query q = Query();
+  q.a = place;
+  q.set = kept.back().data();
+  q.size = (uint32_t)set.size();
+  return q;
+}
+
+// So many different documents, or all where there are fewer.
+Documents any_documents(const Data &data, size_t size) {
+  Documents set;
+  while (set.size() < std::min<size_t>(size, data.documents)) set.insert(below(data.documents));
+  return set;
+}
+
+// So many neighbours, from a random one on.
+Documents neighbours(const Data &data, size_t size) {
+  size = std::min<size_t>(size, data.documents);
+  Numbers run(size);
+  std::iota(run.begin(), run.end(), below(data.documents - size + 1));
+  return Documents(run.begin(), run.end());
+}
+
+// Those of a set that have no entry.
+Documents absent(const Data &data, const Documents &set) {
+  Documents none;
+  for (uint32_t d : set)
+    if (std::find(data.entries.begin(), data.entries.end(), d) == data.entries.end()) none.insert(d);
+  return none;
 }
 
 // Any term, or that of a random entry.
@@ -381,6 +422,7 @@ void verify_query(const std::vector<Contender> &all, const Data &data, Op op, co
     Numbers full = matching_of(data, q);
     expect(expected == full.size() && std::equal(full.begin(), full.end(), right.begin()), all[SCAN], NAMES[op]);
   }
+  if (takes_set(op)) expect(expected == count_of_set(data.entries, Documents(q.set, q.set + q.size), q.a), all[SCAN], NAMES[op]);
   if (takes_terms(op)) {
     Sums sums = sums_of(data, op, q);
     Numbers full = op == WEIGHTED ? sums.list(q.k) : sums.common();
@@ -399,8 +441,18 @@ void verify_places(const std::vector<Contender> &all, const Data &data, Query q)
   }
 }
 
-// A question of terms is asked with its terms given again, too; one for a place also where the document's places end.
+// Sets without a document, of one, of as many as can be (all of up to 64), of any number, of those among them without an entry, and of neighbours;
+// each before the first place, any, or the end.
+void verify_sets(const std::vector<Contender> &all, const Data &data, Op op, size_t turn) {
+  size_t n = data.entries.size(), places[3] = {0, below(n + 1), n}, i = turn;
+  Documents some = any_documents(data, 1 + below(64));
+  for (const Documents &set : {Documents(), any_documents(data, 1), any_documents(data, 64), some, absent(data, some), neighbours(data, 1 + below(64)), neighbours(data, 64)})
+    verify_query(all, data, op, ask_set(set, places[i++ % 3]), turn);
+}
+
+// A question of terms is asked with its terms given again, too; one for a place also where the document's places end; one of a set with sets of many kinds.
 void verify_op(const std::vector<Contender> &all, const Data &data, Op op, size_t turn) {
+  if (takes_set(op)) return verify_sets(all, data, op, turn);
   Query q = random_query(data, op, turn);
   verify_query(all, data, op, q, turn);
   if (op == SELECT) verify_places(all, data, q);
@@ -451,6 +503,17 @@ void verify_readings(const std::vector<Contender> &all, const Data &data) {
   }
 }
 
+// Sets of the small library, whose entries are 3 1 0 3 2 1 3 0.
+void verify_counts(const std::vector<Contender> &all, const Data &data) {
+  const struct { Documents set; size_t place; uint32_t count; } cases[] = {
+    {{}, 8, 0}, {{3}, 6, 2}, {{1, 3}, 4, 3}, {{0, 2}, 2, 0}, {{0, 2}, 5, 2}, {{0, 1, 3}, 8, 7}, {{0, 1, 2, 3}, 7, 7},
+  };
+  for (auto &one : cases) {
+    for (Op op : {RANK_SET, RANKS}) verify_query(all, data, op, ask_set(one.set, one.place), 0);
+    expect(count_of_set(data.entries, one.set, one.place) == one.count, all[SCAN], "count");
+  }
+}
+
 // The small library of docs/FORMAT.md, byte by byte.
 void verify_small(const std::vector<Contender> &all) {
   const uint8_t bytes[74] = {1, 0, 0, 0, 8, 0, 0, 0, 4, 0, 0, 0, 3, 0, 0, 0, 40, 0, 0, 0, 24, 0, 0, 0, 64, 0, 0, 0, 8, 0, 0, 0, 72, 0, 0, 0, 2,
@@ -459,6 +522,7 @@ void verify_small(const std::vector<Contender> &all) {
   for (size_t c = TIGHT; c < all.size(); c++)
     if (is_tree(all[c])) expect(((Archive *)data.indexes[c])->len == 74 && !memcmp(((Archive *)data.indexes[c])->bytes, bytes, 74), all[c], "small library");
   verify_readings(all, data);
+  verify_counts(all, data);
   for (size_t turn = 0; turn < 200; turn++)
     for (int op = ACCESS; op < OPS; op++) verify_op(all, data, (Op)op, turn);
   data.drop(all);
@@ -668,7 +732,7 @@ template <class Make> void add(Set &set, const std::vector<Contender> &all, cons
 }
 
 void add_cells(Set &set, const std::vector<Contender> &all, const char *filter, double seconds) {
-  // Questions of mixed terms differ much in cost, and so do those of repeated terms: a batch has several.
+  // Questions of mixed terms differ much in cost, and so do those of repeated terms and of sets: a batch has several.
   const size_t several = 16;
   auto cell = [&](Op op, int range, uint32_t k, uint32_t size, auto make) {
     add(set, all, filter, seconds, op, range, k, size ? " of " + std::to_string(size) : "", range == MIXED ? several : 1, make);
@@ -689,6 +753,21 @@ void add_cells(Set &set, const std::vector<Contender> &all, const char *filter, 
   cell(READ, -1, 0, 0, none);
   cell(ACCESS, -1, 0, 0, [](const Data &d) { Query q = Query(); q.a = below(d.entries.size()); return q; });
   cell(RANK, -1, 0, 0, [](const Data &d) { Query q = Query(); q.x = d.entries[below(d.entries.size())]; q.a = below(d.entries.size() + 1); return q; });
+  // The same sets in one question and by one rank a member. The seed is put back, as for repeated terms.
+  auto of_set = [&](const std::string &of, auto make) {
+    uint64_t from = seed;
+    for (Op op : {RANK_SET, RANKS}) {
+      seed = from;
+      add(set, all, filter, seconds, op, -1, 0, of, several, [=](const Data &d) {
+        Documents members = make(d);
+        return ask_set(members, below(d.entries.size() + 1));
+      });
+    }
+    seed = from;
+  };
+  for (size_t size : {1, 8, 64})
+    of_set(" of " + std::to_string(size), [=](const Data &d) { return any_documents(d, size); });
+  of_set(" of 64 neighbours", [](const Data &d) { return neighbours(d, 64); });
   // The occurrence is there: as many as before a random place, and one more that may be at it.
   uint64_t before = seed;
   cell(SELECT, -1, 0, 0, [](const Data &d) {

@@ -14,7 +14,7 @@ mkdir -p build
 (cd "$root" && rt staticlib masuvelior) >build/staticlib.log 2>&1 || { tail build/staticlib.log; exit 1; }
 objects=
 peer() { # NAME TIGHT FLAGS
-  for part in peer weighted boolean; do
+  for part in peer weighted boolean rank_set; do
     $CXX $flags -DPEER="$1" -DTIGHT="$2" $3 -c $part.cpp -o "build/$1_$part.o"
     objects="$objects build/$1_$part.o"
   done
@@ -32,11 +32,15 @@ peer plain 0 -mpopcnt
 
 before=
 if [ -n "$BEFORE" ]; then
-  before=-DBEFORE
   ./before.sh "$BEFORE" build
   $CXX $flags -DOURS=before -DCHECKED=0 $(awk '{ print "-D" $1 "=" $2 }' build/before.names) -c ours.cpp -o build/before.o
   objects="$objects build/before.o build/before.a"
-  grep -q "^masuvelior_boolean " build/before.names || before="$before -DBEFORE_WITHOUT_BOOLEAN"
+  # The questions that it lacks are not asked of it.
+  lacks=
+  for op in BOOLEAN RANK_SET; do
+    grep -qi "^masuvelior_$op " build/before.names || lacks="$lacks$op,"
+  done
+  before="-DBEFORE -DBEFORE_LACKS=$lacks"
 fi
 
 # sdsl, without and with the popcount instruction. The two share the names of templates: each becomes one object in which only its entry is seen.

@@ -45,10 +45,29 @@ void count(Scan &x, size_t a, size_t b) {
 
 uint64_t access(void *p, const Query &q, uint32_t *) { return ((Scan *)p)->entries[q.a]; }
 
-uint64_t rank(void *p, const Query &q, uint32_t *) {
+// How many of the entries before a place are d.
+uint32_t count_of(void *p, size_t d, size_t place) {
   const uint16_t *entries = ((Scan *)p)->entries.data();
   uint32_t c = 0;
-  for (size_t i = 0; i < q.a; i++) c += entries[i] == (uint16_t)q.x;
+  for (size_t i = 0; i < place; i++) c += entries[i] == (uint16_t)d;
+  return c;
+}
+
+uint64_t rank(void *p, const Query &q, uint32_t *) { return count_of(p, q.x, q.a); }
+
+// The set as bits, then one pass over the entries.
+uint64_t rank_set(void *p, const Query &q, uint32_t *) {
+  const uint16_t *entries = ((Scan *)p)->entries.data();
+  uint64_t members[64] = {0}, c = 0;
+  for (size_t i = 0; i < q.size; i++) members[q.set[i] / 64] |= (uint64_t)1 << q.set[i] % 64;
+  for (size_t i = 0; i < q.a; i++) c += members[entries[i] / 64] >> entries[i] % 64 & 1;
+  return c;
+}
+
+// One pass for each document.
+uint64_t ranks(void *p, const Query &q, uint32_t *) {
+  uint64_t c = 0;
+  for (size_t i = 0; i < q.size; i++) c += count_of(p, q.set[i], q.a);
   return c;
 }
 
@@ -201,5 +220,5 @@ uint64_t boolean(void *p, const Query &q, uint32_t *answers) {
 }
 
 Contender scan_contender() {
-  return {"scan", build, drop, bytes, {nullptr, nullptr, nullptr, access, rank, select, quantile, list, conjunction, top_k, top_k, weighted, boolean}};
+  return {"scan", build, drop, bytes, {nullptr, nullptr, nullptr, access, rank, rank_set, ranks, select, quantile, list, conjunction, top_k, top_k, weighted, boolean}};
 }

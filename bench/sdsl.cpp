@@ -51,6 +51,11 @@ template <class Tree> struct Peer {
 
   static uint64_t access(void *p, const Query &q, uint32_t *) { return ((Index *)p)->tree[q.a]; }
   static uint64_t rank(void *p, const Query &q, uint32_t *) { return ((Index *)p)->tree.rank(q.a, q.x); }
+  static uint64_t ranks(void *p, const Query &q, uint32_t *) {
+    uint64_t c = 0;
+    for (size_t i = 0; i < q.size; i++) c += ((Index *)p)->tree.rank(q.a, q.set[i]);
+    return c;
+  }
   // sdsl's select wants the occurrence to be there. Where it is, a table says so and spares the rank; the table is no part of sdsl's index, so
   // that it is missing is found by its rank.
   static uint64_t select(void *p, const Query &q, uint32_t *) {
@@ -164,7 +169,7 @@ template <class Tree> struct Peer {
     return put_matching(question, bitmaps, x.documents, answers);
   }
   static Contender contender(const char *name) {
-    return {name, build, drop, bytes, {nullptr, nullptr, nullptr, access, rank, select, quantile, list, conjunction, greedy, probing, nullptr, boolean}};
+    return {name, build, drop, bytes, {nullptr, nullptr, nullptr, access, rank, nullptr, ranks, select, quantile, list, conjunction, greedy, probing, nullptr, boolean}};
   }
 };
 
