@@ -1,20 +1,11 @@
-// boolean ANSWERS 0 SIZE NUMBERS: a question with and, or, not, of so many numbers, about the whole archive, which is behind 16 bytes. It has more
-// numbers than other questions, and its answer is one number for each document.
+// boolean ANSWERS 0 SIZE NUMBERS: a question with and, or, not, of so many numbers. It has more numbers than other questions, and its answer is one number for each document.
 use crate::show;
 use slices::at;
 use slices::low;
 use slices::plus;
 
-pub fn ask(numbers: &[u32], size: u32, bytes: &[u8]) {
-    let from = 16;
-    let to = 16 + size as usize;
-    if to <= bytes.len() {
-        ask_archive(numbers, &bytes[from..to]);
-    }
-}
-
 // At most 70,000 numbers are asked, and 4,100 lent, so that 4,096 documents have room. The lent ones are nines, and are printed after the answer.
-fn ask_archive(numbers: &[u32], archive: &[u8]) {
+pub fn ask(numbers: &[u32], archive: &[u8]) {
     let mut question = [0u16; 70000];
     let mut answers = [9u32; 4100];
     let from = 0;

@@ -26,6 +26,19 @@ struct State {
     size: u32,
 }
 
+// Questions of as many numbers as the line has, about the whole archive, which is behind 16 bytes.
+fn ask_whole(kind: u32, numbers: &[u32], size: u32, bytes: &[u8]) {
+    let from = 16;
+    let to = 16 + size as usize;
+    if bytes.len() < to {
+        return;
+    }
+    match kind {
+        22 => booleans::ask(numbers, &bytes[from..to]),
+        _ => sets::ask(numbers, &bytes[from..to]),
+    }
+}
+
 // How many bytes the archive has after the line.
 fn answer(q: Question, numbers: &[u32], size: u32, bytes: &mut [u8]) -> u32 {
     let kind = q.kind;
@@ -33,12 +46,8 @@ fn answer(q: Question, numbers: &[u32], size: u32, bytes: &mut [u8]) -> u32 {
         0 => archives::write(numbers, bytes),
         1 => archives::put_bytes(numbers, bytes),
         2 => archives::cut(q.a),
-        22 => {
-            booleans::ask(numbers, size, bytes);
-            size
-        }
-        23 => {
-            sets::ask(numbers, size, bytes);
+        22 | 23 => {
+            ask_whole(kind, numbers, size, bytes);
             size
         }
         _ => {
