@@ -1,2 +1,3 @@
 -- Laws of the ends of a range.
 pub mod RangeEnds
+pub mod TermEnds

@@ -25,7 +25,7 @@ use Rattle.wavelet.proofs.Spans.{span-root, span-halves, span-count}
 use Rattle.archive.specs.declared.Layout.{Layout}
 use Rattle.archive.specs.Layout.{Opened}
 use Rattle.archive.proofs.Opened.{entries-are}
-use Rattle.archive.proofs.TermTable.{term-start-mono}
+use Rattle.archive_ranges.proofs.TermEnds.{end-is, term-order}
 use Rattle.bitmaps.specs.Words.{blockHeight, spanWord, wordsFrom}
 use Rattle.bitmaps.specs.Bitmaps.{blockWord, bitmap}
 use Rattle.bitmaps.proofs.Blocks.{twice-over}
@@ -101,9 +101,6 @@ words-root bytes t a b k ab bl kh =
 
 -- ---- of an opened archive
 
-pub term-order : (bytes : List ℕ) (term a b : ℕ) → a ≡ termStart (contents bytes) term → b ≡ termStart (contents bytes) (term + 1) → a ≤ b
-term-order bytes term a b from to = omega (arith, from, to, term-start-mono (contents bytes) term (term + 1) (omega arith))
-
 pub words-term : (bytes : List ℕ) (l : Layout) → Opened bytes l → (term a b : ℕ) → a ≡ termStart (contents bytes) term
     → b ≡ termStart (contents bytes) (term + 1) → b ≤ l .levels .entries
     → wordsFrom (levelOf bytes (l .levels)) (blockHeight (l .levels .height)) (l .levels .height - blockHeight (l .levels .height) - 0) 0 (span 0 a b (l .levels .entries))
@@ -111,6 +108,6 @@ pub words-term : (bytes : List ℕ) (l : Layout) → Opened bytes l → (term a 
 words-term bytes l o term a b from to inside =
     let h = l .levels .height in
     let k = blockHeight h in
-    let end = to ∙ ap (termStart (contents bytes)) (add-one term) in
-    words-root bytes (l .levels) a b k (term-order bytes term a b from to) inside (omega arith)
+    let end = end-is (contents bytes) term a b from to in
+    words-root bytes (l .levels) a b k (term-order (contents bytes) term a b from to) inside (omega arith)
     ∙ (λ i. map (λ c. blockWord (among (part (from i) (end i) (entries-are bytes l o i))) k (2 ^ k * c)) (below (2 ^ (h - k))))

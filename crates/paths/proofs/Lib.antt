@@ -1,5 +1,6 @@
 -- Laws of paths: their frames, the step from a node to its halves, and the way from node to node.
 pub mod Asking
+pub mod Filling
 pub mod Frames
 pub mod Openings
 pub mod TermSpans

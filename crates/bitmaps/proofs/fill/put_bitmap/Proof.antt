@@ -7,7 +7,9 @@ use lib.Seq.{sets}
 use Rattle.archive.proofs.Opened.{stored}
 use Rattle.bitmaps.specs.Words.{blockHeight}
 use Rattle.bitmaps.proofs.Masks.{all-low, all-high, all-few}
-use Rattle.bitmaps.proofs.Terms.{term-order, words-term}
+use Rattle.model.specs.Opening.{contents}
+use Rattle.archive_ranges.proofs.TermEnds.{term-order}
+use Rattle.bitmaps.proofs.Terms.{words-term}
 use Rattle.bitmaps.proofs.fill.put_bitmap.Statement.{statement}
 use Rattle.bitmaps.proofs.fill.put_bitmap.Tie as tie
 
@@ -35,7 +37,7 @@ put-blocks-requires c κs =
     let h = g .l .levels .height in
     let j = c .before .if1 in
     let e : j .blocks ≡ 2 ^ (h - blockHeight h - 0) = ⊎-elim (λ w. all-low h (j .blocks) (w .0 .taken) (w .1)) (λ w. all-high h (j .blocks) (w .0 .left) (v .low) (w .2)) (j .came) in
-    let order = term-order (g .archive .now) (g .term) (a .result) (b .result) (a .ensures .0) (b .ensures .0) in (
+    let order = term-order (contents (g .archive .now)) (g .term) (a .result) (b .result) (a .ensures .0) (b .ensures .0) in (
       v,
       (
         omega arith,
