@@ -1,20 +1,21 @@
 -- Each different number of a list once, in the order of first appearance, and no other (document 02, M-101): `distinct` is that, and no other list is.
 use Prim.Native.Nat.{ℕ, suc, _≤_, min}
 use native.Mathlib.Omega.{arith}
+use native.Mathlib.Nat.{le-of-lt}
 use mathlib.Core.Path.{_≡_, refl, sym, ap, _∙_}
 use mathlib.Core.Logic.{_⊎_, inl, inr}
 use mathlib.Core.List.{List, [], _∷_, _++_}
 use mathlib.Core.Bool.{Bool, true, false, not, cond, _&&_, _||_}
 use lib.ListN.{length}
 use lib.Dec.{ltb, eqb}
-use borrow.Author.Tests.{lt-ltb, ltb-true, eq-eqb, ne-eqb, eqb-true, eqb-false}
+use borrow.Author.Tests.{lt-ltb, le-ltb, ltb-true, eq-eqb, ne-eqb, eqb-true, eqb-false}
 use Rattle.bits.specs.Sequences.{bit, occurrences, select}
-use Rattle.bits.proofs.Tests.{look, eqb-swap, or-cases, or-left, or-right}
+use Rattle.bits.proofs.Tests.{look, eqb-swap}
 use Rattle.bits.proofs.Tally.{tally-same, tally-none, tally-le-length}
 use Rattle.model.specs.Lists.{keep, any, Sorted, Within}
 use Rattle.model.specs.Distinct.{distinct, EachOnce, Different}
 use Rattle.model.proofs.Lists.{keep-append, tally-keep, length-keep, within-keep}
-use Rattle.model.proofs.Sorting.{every-true, every-keep, sorted-imply, sorted-keep, sorted-determined}
+use Rattle.model.proofs.Sorting.{every-true, every-keep, sorted-keep, strict-determined}
 
 -- what stands beside x
 abbrev pub other : ℕ → ℕ → Bool
@@ -45,7 +46,7 @@ other-else x v n y = go (look (eqb v y))
     go (inl e) = rw (ne-eqb x y (λ d. n (eqb-true v y e ∙ sym d)))
     go (inr e) = rw e (none (other x y))
 
-distinct-once : (v : ℕ) (xs : List ℕ) → occurrences v (distinct xs) ≡ min 1 (occurrences v xs)
+pub distinct-once : (v : ℕ) (xs : List ℕ) → occurrences v (distinct xs) ≡ min 1 (occurrences v xs)
 distinct-once v [] = refl
 distinct-once v (x ∷ xs) = go (look (eqb v x)) (distinct-once v xs)
   where
@@ -100,32 +101,12 @@ distinct-each-once xs = record { once = λ v. distinct-once v xs; order = distin
 pub distinct-different : (xs : List ℕ) → Different (distinct xs)
 distinct-different xs v = omega (arith, distinct-once v xs)
 
--- earlier, or the same
-abbrev notAfter : List ℕ → ℕ → ℕ → Bool
-notAfter xs x y = earlier xs x y || eqb x y
+earlier-asym : (xs : List ℕ) (x y : ℕ) → earlier xs x y ≡ true → earlier xs y x ≡ false
+earlier-asym xs x y e = le-ltb (select y xs 1) (select x xs 1) (le-of-lt (ltb-true (select x xs 1) (select y xs 1) e))
 
 pub each-once-unique : (given kept : List ℕ) → EachOnce given kept → kept ≡ distinct given
 each-once-unique given kept e =
-    sorted-determined ahead same anti kept (distinct given) (sorted-imply (earlier given) ahead earlier-ahead kept (e .order))
-    (sorted-imply (earlier given) ahead earlier-ahead (distinct given) (distinct-order given)) (λ v. e .once v ∙ sym (distinct-once v given))
-  where
-    ahead : ℕ → ℕ → Bool
-    ahead = notAfter given
-
-    same : (x : ℕ) → ahead x x ≡ true
-    same x = or-right (earlier given x x) (eqb x x) (eq-eqb x x refl)
-
-    earlier-ahead : (x y : ℕ) → earlier given x y ≡ true → ahead x y ≡ true
-    earlier-ahead x y = or-left (earlier given x y) (eqb x y)
-
-    anti : (x y : ℕ) → ahead x y ≡ true → ahead y x ≡ true → x ≡ y
-    anti x y p q = go (or-cases (earlier given x y) (eqb x y) p) (or-cases (earlier given y x) (eqb y x) q)
-      where
-        go : (earlier given x y ≡ true) ⊎ (eqb x y ≡ true) → (earlier given y x ≡ true) ⊎ (eqb y x ≡ true) → x ≡ y
-        go (inr e) _ = eqb-true x y e
-        go (inl _) (inr e) = sym (eqb-true y x e)
-        go (inl a) (inl b) =
-            absurd (omega (arith, ltb-true (select x given 1) (select y given 1) a, ltb-true (select y given 1) (select x given 1) b))
+    strict-determined (earlier given) (earlier-asym given) kept (distinct given) (e .order) (distinct-order given) (λ v. e .once v ∙ sym (distinct-once v given))
 
 -- ---- one number more, sizes and limits
 

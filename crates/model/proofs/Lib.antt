@@ -4,9 +4,9 @@ pub mod Any
 pub mod Stores
 pub mod Sums
 pub mod Height
+pub mod Sorting
 pub mod Wavelet
 pub mod Format
-pub mod Sorting
 pub mod Distinct
 pub mod Rate
 pub mod Priority
@@ -17,10 +17,10 @@ pub mod Greedy
 pub mod FullList
 pub mod Covering
 pub mod Probing
+pub mod Repeated
 pub mod Weighted
 pub mod Papers
 pub mod Questions
 pub mod Halving
-pub mod Repeated
 pub mod Boolean
 pub mod RankSet

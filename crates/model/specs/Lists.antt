@@ -27,6 +27,15 @@ module _ {A : Type 0} where
   Sorted r [] = Unit {0}
   Sorted r (x ∷ xs) = Every (r x) xs × Sorted r xs
 
+  -- insertion before the first element that a test puts behind, and the order that it makes
+  abbrev pub insertBy : (A → A → Bool) → A → List A → List A
+  insertBy t x [] = x ∷ []
+  insertBy t x (y ∷ ys) = cond (t x y) (x ∷ y ∷ ys) (y ∷ insertBy t x ys)
+
+  abbrev pub sortBy : (A → A → Bool) → List A → List A
+  sortBy t [] = []
+  sortBy t (x ∷ xs) = insertBy t x (sortBy t xs)
+
   -- a slice whose front is written and whose rest is untouched
   abbrev pub overwrite : List A → List A → List A
   overwrite new old = new ++ drop (length new) old
@@ -37,12 +46,10 @@ part a b xs = take (b - a) (drop a xs)
 
 -- ascending order
 abbrev pub insertNumber : ℕ → List ℕ → List ℕ
-insertNumber v [] = v ∷ []
-insertNumber v (x ∷ xs) = cond (leb v x) (v ∷ x ∷ xs) (x ∷ insertNumber v xs)
+insertNumber = insertBy leb
 
 abbrev pub sorted : List ℕ → List ℕ
-sorted [] = []
-sorted (x ∷ xs) = insertNumber x (sorted xs)
+sorted = sortBy leb
 
 -- every number is below n
 abbrev pub Within : ℕ → List ℕ → Type 0

@@ -6,7 +6,7 @@ use mathlib.Core.Bool.{Bool, true, false, cond, _&&_, _||_}
 use lib.ListN.{length}
 use lib.Dec.{ltb, eqb}
 use Rattle.bits.specs.Sequences.{tally}
-use Rattle.model.specs.Lists.{any}
+use Rattle.model.specs.Lists.{any, insertBy}
 use Rattle.model.specs.Queries.{Pair}
 use Rattle.model.specs.TopK.{Node, node, start, countIn, Answer, done, spent}
 
@@ -22,8 +22,7 @@ prior w v =
 
 -- the frontier: the waiting nodes in that order
 abbrev pub insertWaiting : Waiting → List Waiting → List Waiting
-insertWaiting w [] = w ∷ []
-insertWaiting w (v ∷ vs) = cond (prior w v) (w ∷ v ∷ vs) (v ∷ insertWaiting w vs)
+insertWaiting = insertBy prior
 
 -- each move names a document with its count, opens a node, or finds its allowance spent
 pub data Move : Type 0 where

@@ -6,7 +6,7 @@ use lib.ListN.{length, take, replicate}
 use lib.Dec.{leb, ltb, eqb}
 use Rattle.bits.specs.Sequences.{tally, below}
 use Rattle.bits.specs.Bits.{concat}
-use Rattle.model.specs.Lists.{overwrite}
+use Rattle.model.specs.Lists.{overwrite, insertBy, sortBy}
 use Rattle.model.specs.Outcome.{Outcome, answered, refused, refuse, andThen}
 use Rattle.model.specs.Rows.{height}
 use Rattle.model.specs.Opening.{opened}
@@ -40,12 +40,10 @@ abbrev pub aheadPair : Pair → Pair → Bool
 aheadPair p q = ltb (q .count) (p .count) || eqb (q .count) (p .count) && leb (p .document) (q .document)
 
 abbrev pub insertPair : Pair → List Pair → List Pair
-insertPair p [] = p ∷ []
-insertPair p (q ∷ qs) = cond (ahead p q) (p ∷ q ∷ qs) (q ∷ insertPair p qs)
+insertPair = insertBy ahead
 
 abbrev pub ranking : List Pair → List Pair
-ranking [] = []
-ranking (p ∷ ps) = insertPair p (ranking ps)
+ranking = sortBy ahead
 
 -- the first k of the range's documents, or all if there are fewer
 abbrev pub fullList : ℕ → ℕ → List ℕ → List Pair

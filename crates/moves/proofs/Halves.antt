@@ -15,9 +15,9 @@ use Rattle.frontier.specs.Heap.{queue}
 use Rattle.frontier.proofs.Callers.{Each}
 use Rattle.frontier.proofs.Queue.{length-queue}
 use Rattle.model.specs.TopK.{Node, node}
-use Rattle.model.specs.Lists.{Every}
+use Rattle.model.specs.Lists.{Every, insertBy}
 use Rattle.model.specs.Frontier.{nodes, allUnder}
-use Rattle.model.proofs.Sorting.{every-head, every-tail, insertBy, insert-same, same-length}
+use Rattle.model.proofs.Sorting.{every-head, every-tail, insert-same, same-length}
 use Rattle.model.proofs.Greedy.Nodes.{leafly, first-leaf}
 use Rattle.model.proofs.Greedy.Frontier.{priorNode, halves, ready-apart, ready-open}
 use Rattle.moves.specs.Ground.{Ground, recordIn}

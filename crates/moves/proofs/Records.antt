@@ -13,10 +13,10 @@ use Rattle.bits.proofs.Tally.{tally-append}
 use Rattle.frontier.specs.Priority.{lex, ahead, insert}
 use Rattle.frontier.specs.Priority as queued
 use Rattle.frontier.proofs.Callers.{ahead-by-two, Each, insert-map}
-use Rattle.model.specs.Lists.{Every}
+use Rattle.model.specs.Lists.{Every, insertBy}
 use Rattle.model.specs.TopK.{Node, node, start}
 use Rattle.model.specs.Frontier.{waiting, nodes, allUnder}
-use Rattle.model.proofs.Sorting.{every-head, every-tail, insertBy}
+use Rattle.model.proofs.Sorting.{every-head, every-tail}
 use Rattle.model.proofs.Greedy.Nodes.{leafly, first-leaf}
 use Rattle.model.proofs.Greedy.Frontier.{priorNode}
 use Rattle.moves.specs.Ground.{Ground, recordIn, waitingIn}

@@ -12,9 +12,9 @@ use Rattle.bits.proofs.Tests.{look}
 use Rattle.bits.proofs.Tally.{tally-append, tally-same}
 use Rattle.model.specs.TopK.{Node, node, start}
 use Rattle.model.specs.Search.{prior}
-use Rattle.model.specs.Lists.{Every, Sorted}
+use Rattle.model.specs.Lists.{Every, Sorted, insertBy}
 use Rattle.model.specs.Frontier.{waiting, nodes, under, allUnder, place, aheadNode, Ready}
-use Rattle.model.proofs.Sorting.{every-tail, every-cons, insertBy, insert-same, insert-sorted}
+use Rattle.model.proofs.Sorting.{every-tail, every-cons, insert-same, insert-sorted}
 use Rattle.model.proofs.Priority.{Ahead, true-ahead, prior-true, prior-false}
 use Rattle.model.proofs.Greedy.Abstract.{Counted}
 use Rattle.model.proofs.Greedy.Nodes.{living, leafly, leaf-once, first-leaf, start-le-place, place-le-start, node-trans, dead-under}

@@ -8,12 +8,11 @@ use mathlib.Core.Bool.{Bool, true, false, cond}
 use lib.ListN.{length, take, length-take, length-map}
 use lib.Dec.{leb, leb·zero, leb·suc-zero, leb·suc-suc}
 use Rattle.bits.specs.Sequences.{tally}
-use Rattle.model.specs.Lists.{any}
+use Rattle.model.specs.Lists.{any, insertBy}
 use Rattle.model.specs.Queries.{Pair}
 use Rattle.model.specs.TopK.{Node, node, Answer, done, spent}
 use Rattle.model.specs.Search.{Waiting, insertWaiting, Move, names, opens, findsSpent, isOpening, isSpent, namedIn, answerOf, wait, waitHalves, movesFrom}
 use Rattle.model.specs.Frontier.{waiting}
-use Rattle.model.proofs.Sorting.{insertBy}
 use Rattle.model.proofs.Greedy.Abstract.{leafPair, coveredBy, answerBy}
 use Rattle.model.proofs.Greedy.Nodes.{documents}
 use Rattle.model.proofs.Greedy.Frontier.{priorNode, join, halves}

@@ -7,7 +7,7 @@ use mathlib.Core.List.{List, [], _∷_, _++_, map}
 use mathlib.Core.Bool.{Bool, true, false, _&&_, _||_, or-false}
 use lib.ListN.{length, take}
 use lib.Seq.{length-take-le}
-use lib.Dec.{ltb, eqb}
+use lib.Dec.{leb, ltb, eqb}
 use borrow.Author.Tests.{lt-ltb, le-ltb, ltb-false, eqb-true, eqb-false}
 use Rattle.bits.specs.Bits.{sum}
 use Rattle.bits.specs.Sequences.{bit, all, upFrom, below, occurrences, rank}
@@ -16,7 +16,7 @@ use Rattle.bits.proofs.Tally.{tally-same, tally-sum, tally-none, tally-append}
 use Rattle.model.specs.Lists.{any, sorted, Within}
 use Rattle.model.specs.RankSet.{ascending, member, Disjoint, union, rankSet}
 use Rattle.model.proofs.Lists.{any-tally, any-append, tally-within, within-take}
-use Rattle.model.proofs.Wavelet.Sorted.{tally-sorted}
+use Rattle.model.proofs.Sorting.{any-sort}
 use Rattle.model.proofs.RankSet.Ascending.{below-none, ascending-once, ascending-sorted}
 
 -- ---- members
@@ -38,7 +38,7 @@ rank-set-append set other xs p apart = tally-sum (member (set ++ other)) (member
 
 -- the order of a list does not matter to a test of its elements
 pub any-sorted : (p : ℕ → Bool) (xs : List ℕ) → any p (sorted xs) ≡ any p xs
-any-sorted p xs = any-tally p (sorted xs) ∙ ap (ltb 0) (tally-sorted p xs) ∙ sym (any-tally p xs)
+any-sorted = any-sort leb
 
 pub rank-set-union : (set other xs : List ℕ) (p : ℕ) → Disjoint set other → rankSet (union set other) xs p ≡ rankSet set xs p + rankSet other xs p
 rank-set-union set other xs p apart =

@@ -14,21 +14,12 @@ use Rattle.bits.proofs.Tests.{bit-le, bit-ltb-suc, eqb-swap, Cmp, less, same, m
 use Rattle.bits.proofs.Tally.{tally-sum, tally-le, tally-true}
 use Rattle.model.specs.Lists.{insertNumber, sorted}
 use Rattle.model.specs.Queries.{quantile}
+use Rattle.model.proofs.Sorting.{sort-same}
 
 -- ---- counts
 
-tally-insert : (p : ℕ → Bool) (v : ℕ) (ys : List ℕ) → tally p (insertNumber v ys) ≡ bit (p v) + tally p ys
-tally-insert p v [] = refl
-tally-insert p v (y ∷ ys) = go (leb v y) (tally-insert p v ys)
-  where
-    go : (b : Bool) → tally p (insertNumber v ys) ≡ bit (p v) + tally p ys
-        → tally p (cond b (v ∷ y ∷ ys) (y ∷ insertNumber v ys)) ≡ bit (p v) + (bit (p y) + tally p ys)
-    go true ih = refl
-    go false ih = omega arith
-
 pub tally-sorted : (p : ℕ → Bool) (xs : List ℕ) → tally p (sorted xs) ≡ tally p xs
-tally-sorted p [] = refl
-tally-sorted p (x ∷ xs) = omega (arith, tally-insert p x (sorted xs), tally-sorted p xs)
+tally-sorted p xs = sort-same leb xs p
 
 pub length-sorted : (xs : List ℕ) → length (sorted xs) ≡ length xs
 length-sorted xs = sym (tally-true (sorted xs)) ∙ tally-sorted (λ x. true) xs ∙ tally-true xs
