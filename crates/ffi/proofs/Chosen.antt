@@ -16,6 +16,7 @@ use Rattle.model.specs.Outcome.{answered, refuse, andThen}
 use Rattle.model.specs.Opening.{opened}
 use Rattle.model.specs.Queries.{pairsInto, conjunction, conjunctionResult}
 use Rattle.model.specs.TopK.{foundInto}
+use Rattle.model.specs.RarestFirst.{rarestFirst, orderInto, rarestFirstResult}
 use Rattle.model.specs.Weighted.{weightedFound, weightedResult}
 use Rattle.paths.specs.declared.Terms.{Terms}
 use Rattle.ffi.specs.Chosen.{Chosen}
@@ -78,5 +79,16 @@ weighted-chosen bytes k allowance answers work =
     refuse 10 wrong
     (refuse 11 (any (leb (length (lib .lengths))) terms)
     (refuse 12 (ltb (length answers) (2 * min k (lib .documents)))
-    (refuse 13 (ltb (length work) (4 * lib .documents)) (answered (weightedFound lib (distinct terms) k allowance))))))))
+    (refuse 13 (ltb (length work) (4 * lib .documents)) (answered (weightedFound lib (rarestFirst lib terms) k allowance))))))))
+    (λ ts us. refl)
+
+-- the rarest term first
+pub rarest-first-chosen : (bytes lent chosen : List ℕ) (q : Terms) → Chosen chosen q
+    → rarestFirstResult bytes (q .numbers) (q .size) lent ≡ rarestFirstResult bytes chosen (length chosen) lent
+rarest-first-chosen bytes lent =
+    chosen-same
+    (λ wrong terms.
+    orderInto lent
+    (andThen (opened bytes)
+    (λ lib. refuse 10 wrong (refuse 11 (any (leb (length (lib .lengths))) terms) (answered (rarestFirst lib terms))))))
     (λ ts us. refl)

@@ -4,6 +4,7 @@ mod archives;
 mod boolean_questions;
 mod conjunctions;
 mod entries;
+mod orders;
 mod ranges;
 mod searches;
 mod sets;

@@ -24,3 +24,4 @@ pub mod Questions
 pub mod Halving
 pub mod Boolean
 pub mod RankSet
+pub mod RarestFirst

@@ -10,11 +10,12 @@ use lib.Seq.{take-length, length-take-le}
 use lib.Dec.{leb, ltb, eqb}
 use borrow.Author.Tests.{le-ltb, eqb-true, not-false}
 use Rattle.bits.proofs.Tests.{look, eqb-iff}
-use Rattle.model.specs.Lists.{keep, any}
+use Rattle.model.specs.Lists.{keep, any, sortBy}
 use Rattle.model.specs.Distinct.{distinct}
 use Rattle.model.specs.Outcome.{answered, refuse, andThen}
 use Rattle.model.specs.Opening.{opened}
 use Rattle.model.specs.Queries.{pairsInto, conjunction, conjunctionResult}
+use Rattle.model.specs.RarestFirst.{rarer}
 use Rattle.model.specs.TopK.{foundInto}
 use Rattle.model.specs.Weighted.{weightedFound, weightedResult}
 use Rattle.model.proofs.Lists.{keep-keep}
@@ -70,7 +71,7 @@ any-keep p q f (x ∷ xs) = go (look (q x)) (any-keep p q f xs)
     go (inl e) i = rw e (ap (λ (b : Bool). p x || b) i)
     go (inr e) i = rw (e, f x e) i
 
-any-distinct : (p : ℕ → Bool) (xs : List ℕ) → any p (distinct xs) ≡ any p xs
+pub any-distinct : (p : ℕ → Bool) (xs : List ℕ) → any p (distinct xs) ≡ any p xs
 any-distinct p [] = refl
 any-distinct p (x ∷ xs) = go (look (p x)) (any-distinct p xs)
   where
@@ -132,4 +133,4 @@ module _ (bytes numbers : List ℕ) (size : ℕ) (inside : size ≤ length numbe
       refuse 10 (none i || many i)
       (refuse 11 (seen (length (lib .lengths)) i)
       (refuse 12 (ltb (length answers) (2 * min k (lib .documents)))
-      (refuse 13 (ltb (length work) (4 * lib .documents)) (answered (weightedFound lib (same i) k allowance)))))))
+      (refuse 13 (ltb (length work) (4 * lib .documents)) (answered (weightedFound lib (sortBy (rarer lib) (same i)) k allowance)))))))

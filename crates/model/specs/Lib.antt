@@ -11,6 +11,7 @@ pub mod Queries
 pub mod Papers
 pub mod TopK
 pub mod Search
+pub mod RarestFirst
 pub mod Weighted
 pub mod Grammar
 pub mod Reading
@@ -22,6 +23,7 @@ pub mod Frontier
 pub mod Demand2
 pub mod Demand3
 pub mod WeightedDemand
+pub mod RarestFirstDemand
 pub mod BooleanDemand
 pub mod RateDemand
 pub mod RankSetDemand
@@ -34,3 +36,4 @@ pub mod HalvingCases
 pub mod ReadingCases
 pub mod BooleanCases
 pub mod RankSetCases
+pub mod RarestFirstCases

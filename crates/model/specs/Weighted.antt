@@ -7,12 +7,12 @@ use lib.Dec.{leb, ltb, eqb}
 use Rattle.bits.specs.Sequences.{tally, below, occurrences}
 use Rattle.bits.specs.Bits.{sum}
 use Rattle.model.specs.Lists.{keep, any}
-use Rattle.model.specs.Distinct.{distinct}
 use Rattle.model.specs.Outcome.{answered, refuse, andThen}
 use Rattle.model.specs.Rows.{height}
 use Rattle.model.specs.Format.{Library}
 use Rattle.model.specs.Opening.{opened}
 use Rattle.model.specs.Queries.{Pair, under}
+use Rattle.model.specs.RarestFirst.{rarestFirst}
 use Rattle.model.specs.TopK.{Node, node, start, countIn, innerNodes, ranking, needBy, Answer, answerBy, Ended, Found, foundOf, SearchResult, foundInto}
 use Rattle.model.specs.Search.{Waiting, Move, movesFrom}
 
@@ -110,8 +110,8 @@ module _ (ws : List Weighed) where
 abbrev pub weightedFound : Library → List ℕ → ℕ → ℕ → Found Ended
 weightedFound lib terms k allowance = foundOf (lib .documents) (weightedTopK (weighed lib terms) (height (lib .documents)) (lib .documents) k allowance)
 
--- the question holds so many of the given numbers, one to eight; refused as the conjunction is, then as the shortlist is. A repeated term counts once
--- (M-101), after the refusals
+-- the question holds so many of the given numbers, one to eight; refused as the conjunction is, then as the shortlist is. After the refusals a repeated term
+-- counts once (M-101), and scores are added up by the rarest term first (M-107)
 abbrev pub weightedResult : List ℕ → List ℕ → ℕ → ℕ → ℕ → List ℕ → List ℕ → SearchResult Ended
 weightedResult bytes numbers size k allowance answers work =
     let terms = take size numbers in
@@ -122,4 +122,4 @@ weightedResult bytes numbers size k allowance answers work =
     (refuse 11 (any (leb (length (lib .lengths))) terms)
     (refuse 12 (ltb (length answers) (2 * min k (lib .documents)))
     (refuse 13 (ltb (length work) (4 * lib .documents))
-    (answered (weightedFound lib (distinct terms) k allowance)))))))
+    (answered (weightedFound lib (rarestFirst lib terms) k allowance)))))))

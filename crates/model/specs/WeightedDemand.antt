@@ -1,4 +1,4 @@
--- M-100 and M-101 (document 02) as one record, in the shape of `Demand3`: a field for each of M-100's sentences, with scores where that has counts.
+-- M-100, M-101 and M-107 (document 02) as one record, in the shape of `Demand3`: a field for each of M-100's sentences, with scores where that has counts.
 -- `proofs/Weighted/Demand` draws it from `weightedResult`.
 use Prim.Native.Nat.{ℕ, _+_, _*_, _≤_, _<_, min}
 use mathlib.Core.Path.{_≡_}
@@ -13,8 +13,8 @@ use Rattle.model.specs.Lists.{any, Every, Sorted, overwrite}
 use Rattle.model.specs.Outcome.{answered}
 use Rattle.model.specs.Rows.{height}
 use Rattle.model.specs.Format.{Library}
-use Rattle.model.specs.Distinct.{EachOnce}
 use Rattle.model.specs.Queries.{Pair, flat, under}
+use Rattle.model.specs.RarestFirst.{RarestFirst}
 use Rattle.model.specs.TopK.{Node, node, start, countIn, innerNodes, ahead, last, Ended, doneWith, spentWith, SearchResult}
 use Rattle.model.specs.Search.{Move, isOpening, wait, movesFrom}
 use Rattle.model.specs.Demand3.{isDone, figure}
@@ -38,9 +38,9 @@ module _ (lib : Library) (terms : List ℕ) where
 
 -- of the given terms of a library: what the weighted search leaves where `out` was lent for the answers and `work` to work in
 pub record WeightedDemand (lib : Library) (given : List ℕ) (k allowance : ℕ) (out work : List ℕ) (weighted : SearchResult Ended) : Type 0 where
-  -- M-101: "a repeated word counts once in .. weighted totals; the first stands, later ones drop out"
+  -- M-101: "a repeated word counts once in .. weighted totals"; M-107: "by ascending number of entries, equal ones by word number"
   pub terms : List ℕ
-  pub terms-once : EachOnce given terms
+  pub terms-rarest-first : RarestFirst lib given terms
   -- "A word found in df sheets weighs the largest g with 2^g × df^4 at most N^4"
   pub weightOf : ℕ → ℕ
   pub weighs : (t : ℕ) → 0 < length (under lib t)

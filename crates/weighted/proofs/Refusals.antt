@@ -9,7 +9,7 @@ use borrow.Author.Tests.{lt-ltb, le-ltb}
 use Rattle.model.specs.Lists.{any}
 use Rattle.model.specs.Outcome.{Outcome, answered, refused, refuse}
 use Rattle.model.specs.Opening.{contents}
-use Rattle.model.specs.Distinct.{distinct}
+use Rattle.model.specs.RarestFirst.{rarestFirst}
 use Rattle.model.specs.TopK.{Ended, Found, foundInto}
 use Rattle.model.specs.Weighted.{weightedFound, weightedResult}
 use Rattle.archive.specs.declared.Layout.{Layout}
@@ -19,7 +19,7 @@ use Rattle.paths.proofs.Asking.{asking, asking-none, asking-many, asking-missin
 
 module _ (bytes : List ℕ) (l : Layout) (o : Opened bytes l) (numbers : List ℕ) (size k allowance : ℕ) (answers work : List ℕ) where
   abbrev found : Outcome (Found Ended)
-  found = answered (weightedFound (contents bytes) (distinct (take size numbers)) k allowance)
+  found = answered (weightedFound (contents bytes) (rarestFirst (contents bytes) (take size numbers)) k allowance)
 
   -- refusals 12 and 13, in a library of N documents
   abbrev roomed : ℕ → Outcome (Found Ended)

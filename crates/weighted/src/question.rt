@@ -4,12 +4,12 @@ use crate::run::weighted_in;
 use archive::Layout;
 use archive::Opening;
 use archive::open;
-use distinct_terms::distinct;
 use moves::TopK;
 use moves::answer_of;
 use paths::Terms;
 use paths::least;
 use paths::term_missing;
+use rarest_first::rarest_first_in;
 ghost use mathlib.Core.Path.{_≡_};
 ghost use Rattle.model.specs.Weighted.{weightedResult};
 ghost use Rattle.archive.specs.Layout.{Opened};
@@ -43,7 +43,7 @@ pub fn weighted_opened(
     if work.len() < 4 * layout.documents {
         return TopK::Refused(13);
     }
-    let terms = distinct(q);
+    let terms = rarest_first_in(archive, layout, q);
     answer_of(weighted_in(archive, layout, terms, k, allowance, answers, work))
 }
 

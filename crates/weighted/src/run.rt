@@ -15,8 +15,10 @@ use search::clear;
 ghost use mathlib.Core.Path.{_≡_};
 ghost use Prim.Native.Nat.{_*_, _≤_, _<_, min};
 ghost use lib.ListN.{length};
-ghost use Rattle.model.specs.Distinct.{Different};
+ghost use Rattle.model.specs.Lists.{Sorted};
 ghost use Rattle.model.specs.Outcome.{answered};
+ghost use Rattle.model.specs.Opening.{contents};
+ghost use Rattle.model.specs.RarestFirst.{rarer};
 ghost use Rattle.model.specs.TopK.{foundInto};
 ghost use Rattle.archive.specs.Layout.{Opened};
 ghost use Rattle.paths.specs.Paths.{termsOf, Asked};
@@ -81,7 +83,7 @@ fn advance(
     Onward { progress, at }
 }
 
-// Weighted top-k of some terms, none of them repeated: the answer is the one read off the moves; the pairs in the answer slice, and the first 4 * N numbers of the work slice 0.
+// Weighted top-k of some terms, the rarest first, by which scores are added up: the answer is the one read off the moves; the pairs in the answer slice, and the first 4 * N numbers of the work slice 0.
 pub fn weighted_in(
     archive: &[u8],
     l: Layout,
@@ -93,7 +95,7 @@ pub fn weighted_in(
 ) -> Ended
     requires { ⌜ Opened (now archive) l ⌝ }
     requires { ⌜ Asked (l .terms) q × (2 * min k (l .documents) ≤ length (now answers)) × (4 * l .documents ≤ length (now work))
-        × Different (termsOf q) ⌝ }
+        × Sorted (rarer (contents (now archive))) (termsOf q) ⌝ }
     ensures { λ r. ⌜ resultIs r (now (answers .exit)) (now (work .exit))
         ≡ foundInto (now (answers .entry)) (now (work .entry)) (answered (foundIn (now (archive .entry)) l q k allowance)) ⌝ }
 {

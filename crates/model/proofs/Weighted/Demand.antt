@@ -4,7 +4,7 @@ use native.Mathlib.Omega.{arith}
 use native.Mathlib.Nat.{zero-add}
 use mathlib.Core.Path.{_≡_, refl, sym, ap, ap₂, _∙_, fun-ext}
 use mathlib.Core.Logic.{_⊎_, inl, inr}
-use mathlib.Core.List.{List, [], _∷_, map, map-map}
+use mathlib.Core.List.{List, [], _∷_, map-map}
 use mathlib.Core.Bool.{Bool, true, false, _&&_, _||_}
 use lib.ListN.{length, getD, take}
 use lib.Dec.{leb, ltb, eqb}
@@ -23,13 +23,14 @@ use Rattle.model.specs.TopK.{Node, node, start, countIn, innerNodes, nee
 use Rattle.model.specs.Search.{wait, movesFrom}
 use Rattle.model.specs.Weighted.{Weighed, documentsIn, weight, weighedTerm, weighed, scoreOf, isFound, scoreIn, livesIn, weightedTopK, weightedMoves, weightedFound, weightedResult}
 use Rattle.model.specs.Demand3.{Room}
-use Rattle.model.specs.Distinct.{distinct, EachOnce}
+use Rattle.model.specs.RarestFirst.{rarestFirst, RarestFirst}
 use Rattle.model.specs.WeightedDemand.{WeightedDemand, hasEntry, nodeHasEntry, score, nodeScore}
 use Rattle.model.proofs.Lists.{within-part, tally-take-lt}
+use Rattle.model.proofs.Any.{any-map}
 use Rattle.model.proofs.Height.{le-pow-height}
 use Rattle.model.proofs.Format.Valid.{any-within}
 use Rattle.model.proofs.Format.WriteBack as opened
-use Rattle.model.proofs.Distinct.{distinct-each-once}
+use Rattle.model.proofs.RarestFirst.Order.{rarest-first}
 use Rattle.model.proofs.FullList.{fullBy, exactly-k, different, all-pass, exact-count, in-order, others-after}
 use Rattle.model.proofs.Covering as covering
 use Rattle.model.proofs.Greedy.Answers.{figureOf, figure-answer}
@@ -56,10 +57,6 @@ documents-none N [] e = tally-none (λ d. ltb 0 (occurrences d [])) (λ d. refl)
 documents-none N (x ∷ xs) e = absurd (omega arith)
 
 -- ---- scores, term by term
-
-any-map : {A B : Type 0} (p : B → Bool) (f : A → B) (xs : List A) → any p (map f xs) ≡ any (λ x. p (f x)) xs
-any-map p f [] = refl
-any-map p f (x ∷ xs) = ap (λ (b : Bool). p (f x) || b) (any-map p f xs)
 
 module _ (lib : Library) (terms : List ℕ) where
   abbrev N : ℕ
@@ -127,7 +124,7 @@ module _ (lib : Library) (terms : List ℕ) where
     -- ---- what is found
 
     module _ (k allowance : ℕ) (out work : List ℕ) (r : SearchResult Ended)
-        (promise : r ≡ foundInto out work (answered (weightedFound lib terms k allowance))) (given : List ℕ) (once : EachOnce given terms) where
+        (promise : r ≡ foundInto out work (answered (weightedFound lib terms k allowance))) (given : List ℕ) (once : RarestFirst lib given terms) where
       abbrev full : List Pair
       full = fullBy N k total has
 
@@ -139,7 +136,7 @@ module _ (lib : Library) (terms : List ℕ) where
           let L = covering.longestFront need refl allowance full in
           record {
             terms = terms;
-            terms-once = once;
+            terms-rarest-first = once;
             weightOf = weightOf;
             weighs = λ t l. weight-largest N (documentsIn N (under lib t)) (documents-some N (under lib t) (under-within t) l) (documents-le N (under lib t));
             weighs-none = λ t e. ap (weight N) (documents-none N (under lib t) e);
@@ -183,7 +180,7 @@ module _ (bytes : List ℕ) (s : Sizes) (archive : opening bytes ≡ answered s)
   abbrev terms : List ℕ
   terms = take size numbers
 
-  not-refused : weightedResult bytes numbers size k allowance out work ≡ foundInto out work (answered (weightedFound held (distinct terms) k allowance))
+  not-refused : weightedResult bytes numbers size k allowance out work ≡ foundInto out work (answered (weightedFound held (rarestFirst held terms) k allowance))
   not-refused =
       let none : eqb size 0 ≡ false = ne-eqb size 0 (λ e. omega arith) in
       let more : ltb 8 size ≡ false = le-ltb 8 size few in
@@ -194,9 +191,9 @@ module _ (bytes : List ℕ) (s : Sizes) (archive : opening bytes ≡ answered s)
       (λ i.
       foundInto out work
       (refuse 10 (none i || more i)
-      (refuse 11 (past i) (refuse 12 (short i) (refuse 13 (tight i) (answered (weightedFound held (distinct terms) k allowance)))))))
+      (refuse 11 (past i) (refuse 12 (short i) (refuse 13 (tight i) (answered (weightedFound held (rarestFirst held terms) k allowance)))))))
 
   pub weighted-demand : (r : SearchResult Ended) → r ≡ weightedResult bytes numbers size k allowance out work
       → WeightedDemand (contents bytes) (take size numbers) k allowance out work r
   weighted-demand r promise =
-      found held (distinct terms) (opened.accepted bytes s archive .0 .within) k allowance out work r (promise ∙ not-refused) terms (distinct-each-once terms)
+      found held (rarestFirst held terms) (opened.accepted bytes s archive .0 .within) k allowance out work r (promise ∙ not-refused) terms (rarest-first held terms)

@@ -7,17 +7,17 @@ use mathlib.Core.Bool.{false}
 use lib.ListN.{length}
 use lib.Dec.{leb}
 use borrow.Author.Needs.{needs}
-use Rattle.model.specs.Lists.{any}
-use Rattle.model.specs.Distinct.{distinct}
+use Rattle.model.specs.Lists.{any, Sorted}
 use Rattle.model.specs.Outcome.{Outcome, answered}
 use Rattle.model.specs.Opening.{contents}
+use Rattle.model.specs.RarestFirst.{rarer, rarestFirst}
 use Rattle.model.specs.Weighted.{weightedFound}
 use Rattle.model.specs.TopK.{Ended, Found, foundInto}
 use Rattle.archive.proofs.Opened.{fitting}
-use Rattle.paths.specs.declared.Terms.{Terms}
 use Rattle.paths.specs.Paths.{termsOf, Asked}
 use Rattle.model.proofs.Format.Valid.{within-any}
-use Rattle.distinct_terms.proofs.Keeping.{asked-distinct, different-distinct}
+use Rattle.model.proofs.RarestFirst.Order.{rarest-first}
+use Rattle.rarest_first.proofs.Results.{terms-in-order}
 use Rattle.weighted.proofs.Answers.{found-answer}
 use Rattle.weighted.proofs.Refusals.{terms-none, terms-many, terms-missing, answers-short, work-short, accepted}
 use Rattle.weighted.proofs.question.weighted_opened.Statement.{statement}
@@ -90,23 +90,29 @@ known c = sym (c .before .before .before .before .before .term-missing .ensures)
 room : (c : tie.Else5) → 2 * min (start c .args .k) (start c .args .layout .documents) ≤ length (start c .args .answers .now)
 room c = subst (λ (n : ℕ). 2 * n ≤ length (start c .args .answers .now)) (c .before .before .before .least .ensures) (c .before .before .if4 .left)
 
--- the given terms are one to eight and known, and so are the different ones
-once : (c : tie.Else5) (r : Terms) → termsOf r ≡ distinct (termsOf (start c .args .q)) → r .size ≤ start c .args .q .size → Asked (start c .args .layout .terms) r
-once c r e l =
+-- the given terms are one to eight and known
+asked : (c : tie.Else5) → Asked (start c .args .layout .terms) (start c .args .q)
+asked c =
     let g = start c .args in
     let some = c .before .before .before .before .before .before .before .before .if1 .left in
-    let a : Asked (g .layout .terms) (g .q) = record { some = omega arith; few = c .before .before .before .before .before .before .if2 .left; known = within-any (g .layout .terms) (termsOf (g .q)) (known c) } in
-    asked-distinct (g .layout .terms) (g .q) r (eight (start c)) a e l
+    record { some = omega arith; few = c .before .before .before .before .before .before .if2 .left; known = within-any (g .layout .terms) (termsOf (g .q)) (known c) }
 
-distinct-requires : tie.Need-distinct-requires
-distinct-requires c κs = search needs
+rarest-first-in-requires : tie.Need-rarest-first-in-requires
+rarest-first-in-requires c κs = (start c .pre, asked c)
 
 weighted-in-requires : tie.Need-weighted-in-requires
 weighted-in-requires c κs =
     let e = c .before .before .before in
-    let d = c .before .before .distinct in (
+    let d = c .before .before .rarest-first-in in
+    let given = termsOf (start e .args .q) in
+    let lib = contents (start e .args .archive .now) in (
       start e .pre,
-      (once e (d .result) (d .ensures .0) (d .ensures .1), room e, e .if5 .left, different-distinct (d .result) (termsOf (start e .args .q)) (d .ensures .0)),
+      (
+        d .ensures .1,
+        room e,
+        e .if5 .left,
+        subst (Sorted (rarer lib)) (sym (terms-in-order (rarestFirst lib given) (d .result) (d .ensures .0))) (rarest-first lib given .ascending),
+      ),
     )
 
 answer-of-requires : tie.Need-answer-of-requires
@@ -121,7 +127,7 @@ same-length-2 c = search needs
 returns-6 : tie.Need-returns-6
 returns-6 c =
     let e = c .before .before .before .before .before .before .before .before .before in
-    let d = c .before .before .before .before .before .before .before .before .distinct in
+    let d = c .before .before .before .before .before .before .before .before .rarest-first-in in
     let s = start e in
     let g = s .args in
     let kept : length (d .result .numbers) ≡ 8 = search needs in
@@ -131,8 +137,9 @@ returns-6 c =
     ap (λ (x : Outcome Ended). record { outcome = x; answers = out; work = working }) (c .answer-of .ensures)
     ∙ w .ensures
     ∙ ap (λ (f : Found Ended). foundInto (g .answers .now) (g .work .now) (answered f))
-    (found-answer (g .archive .now) (g .layout) (s .pre) (d .result) (once e (d .result) (d .ensures .0) (d .ensures .1)) kept (g .k) (g .allowance)
-    ∙ ap (λ (ts : List ℕ). weightedFound (contents (g .archive .now)) ts (g .k) (g .allowance)) (d .ensures .0))
+    (found-answer (g .archive .now) (g .layout) (s .pre) (d .result) (d .ensures .1) kept (g .k) (g .allowance)
+    ∙ ap (λ (ts : List ℕ). weightedFound (contents (g .archive .now)) ts (g .k) (g .allowance))
+    (terms-in-order (rarestFirst (contents (g .archive .now)) (termsOf (g .q))) (d .result) (d .ensures .0)))
     ∙ accepted (g .archive .now) (g .layout) (s .pre) (g .q .numbers) (g .q .size) (g .k) (g .allowance) (g .answers .now) (g .work .now) (e .before .before .before .before .before .before .before .before .if1 .left) (e .before .before .before .before .before .before .if2 .left) (known e) (room e) (e .if5 .left)
 
 pub weighted-opened-spec : {M : Type 1} → statement M
@@ -148,7 +155,7 @@ weighted-opened-spec =
     returns-4
     mul-if5
     returns-5
-    distinct-requires
+    rarest-first-in-requires
     weighted-in-requires
     answer-of-requires
     same-length

@@ -1,0 +1,2 @@
+-- What the contracts of rarest_first cite.
+pub mod Keys
