@@ -23,8 +23,20 @@ fn ask_part(q: Question, archive: &[u8]) {
         5..=10 => show::answer(number(q, archive)),
         11 => show::range(queries::range_of_terms(archive, q.a, q.b)),
         20 => show::bytes(archive),
+        24 => rarest_first(q, archive),
         _ => ask_lent(q, archive),
     }
+}
+
+// How many terms are asked, then eight. What is lent for the order holds nines, and is printed after the answer.
+fn rarest_first(q: Question, archive: &[u8]) {
+    let asked = Terms {
+        numbers: [q.b, q.c, q.d, q.e, q.f, q.g, q.h, q.i],
+        size: q.a,
+    };
+    let mut order = [9u32; 8];
+    show::answer(rarest_first::rarest_first(archive, asked, &mut order));
+    show::eight(order);
 }
 
 fn report(input: &[u8]) {

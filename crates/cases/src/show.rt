@@ -40,6 +40,11 @@ pub fn lent(xs: &[u32]) {
     }
 }
 
+// Eight numbers that were lent.
+pub fn eight(xs: [u32; 8]) {
+    lent(&xs);
+}
+
 fn byte(x: u8) {
     next(x as u32);
 }

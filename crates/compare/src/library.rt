@@ -11,6 +11,7 @@ use slices::put;
 use trials::booleans;
 use trials::lists;
 use trials::numbers;
+use trials::orders;
 use trials::places;
 use trials::random::below;
 use trials::random::draw;
@@ -179,7 +180,24 @@ fn ask_sets(
     }
 }
 
-// The check on opening, the reader and the questions, of the archive in the front of a target.
+// So many orders of terms.
+fn ask_orders(
+    times: u32,
+    archive: &[u8],
+    lengths: &[u32],
+    l: Sizes,
+    seed: u32,
+    made: &mut [u32; 64],
+) {
+    let mut i = 0;
+    while i < times {
+        orders::ask_drawn(archive, lengths, l, draw(seed, i), made);
+        i += 1;
+    }
+}
+
+// The check on opening, the reader and the questions, of the archive in the front of a target. Not large libraries are walked too, and asked for every order
+// of a few terms.
 fn ask_written(
     target: &[u8],
     size: u32,
@@ -209,14 +227,16 @@ fn ask_written(
         made,
     );
     ask_sets(questions / 4, archive, entries, l, draw(seed, 6), made);
-    walk(archive, entries, l, seed, made);
+    ask_orders(questions / 4, archive, lengths, l, draw(seed, 7), made);
+    if l.n < 1000 {
+        walk(archive, entries, l, seed, made);
+        orders::ask_orders(archive, entries, lengths, l, draw(seed, 8), made);
+    }
 }
 
-// Over the places of two documents, any and that of the first entry, in libraries that are not large.
+// Over the places of two documents, any and that of the first entry.
 fn walk(archive: &[u8], entries: &[u32], l: Sizes, seed: u32, made: &mut [u32; 64]) {
-    if l.n < 1000 {
-        let d = below(draw(seed, 4), l.documents);
-        places::walk(archive, entries, l, d, made);
-        places::walk(archive, entries, l, at(entries, 0), made);
-    }
+    let d = below(draw(seed, 4), l.documents);
+    places::walk(archive, entries, l, d, made);
+    places::walk(archive, entries, l, at(entries, 0), made);
 }

@@ -5,6 +5,7 @@ mod asked;
 pub mod boolean;
 pub mod marks;
 pub mod numbers;
+pub mod orders;
 pub mod outcome;
 pub mod pairs;
 mod postfix;

@@ -45,14 +45,16 @@ fn name(kind: u32) {
         21 => text(b"boolean"),
         22 => text(b"boolean of sequences"),
         23 => text(b"per mille of small sizes"),
-        _ => text(b"rank of a set"),
+        24 => text(b"rank of a set"),
+        25 => text(b"rarest first"),
+        _ => text(b"weighted of orders"),
     }
 }
 
-const KINDS: u32 = 25;
+const KINDS: u32 = 27;
 
 // A refusal's slot is its number and this.
-const REFUSALS: u32 = 25;
+const REFUSALS: u32 = 27;
 
 // How many of the weighted searches of patterns end so: an end's slot is its number and this.
 const ENDS: u32 = 48;

@@ -6,6 +6,7 @@ mod edits;
 mod expressions;
 pub mod lists;
 pub mod numbers;
+pub mod orders;
 pub mod patterns;
 pub mod places;
 pub mod random;

@@ -1,7 +1,9 @@
-// Every pattern of one to eight terms among three, so every way to repeat a term: its conjunction and its weighted search, beside the plain side.
+// Every pattern of one to eight terms among three, so every way to repeat a term: its conjunction, its weighted search and its order, beside the
+// plain side.
 use crate::differences::count_end;
 use crate::lists::ask_terms;
 use crate::lists::named;
+use crate::orders;
 use crate::random::below;
 use crate::random::draw;
 use crate::searches;
@@ -44,13 +46,13 @@ fn pattern(three: [u32; 3], i: u32, size: u32) -> Terms {
     }
 }
 
-// The weighted search: k and the allowance from 0 to one more than there are documents, and just the room that it takes.
-fn search_of(t: Terms, l: Sizes, seed: u32) -> Question {
+// A weighted search: k and the allowance from 0 to one more than there are documents, and just the room that it takes.
+pub fn search_of(kind: u32, t: Terms, l: Sizes, seed: u32) -> Question {
     let numbers = t.numbers;
     let most = plus(l.documents, 2);
     let k = below(draw(seed, 1), most);
     Question {
-        kind: 20,
+        kind,
         a: numbers[0],
         b: t.size,
         c: k,
@@ -60,8 +62,8 @@ fn search_of(t: Terms, l: Sizes, seed: u32) -> Question {
     }
 }
 
-// Both questions of a pattern.
-fn ask_both(
+// All questions of a pattern.
+fn ask_all(
     t: Terms,
     archive: &[u8],
     entries: &[u32],
@@ -71,10 +73,11 @@ fn ask_both(
     made: &mut [u32; 64],
 ) {
     let q = named(19, t, plus(l.documents, l.documents));
-    let s = search_of(t, l, draw(seed, 1));
+    let s = search_of(20, t, l, draw(seed, 1));
     ask_terms(q, t, archive, entries, lengths, l, draw(seed, 2), made);
     let end = searches::ask(s, t, archive, entries, lengths, l, draw(seed, 3), made);
     count_end(end, made);
+    orders::ask(t, archive, lengths, l, draw(seed, 4), made);
 }
 
 fn ask_size(
@@ -90,7 +93,7 @@ fn ask_size(
     let mut i = 0;
     while i < most {
         let t = pattern(three, i, size);
-        ask_both(t, archive, entries, lengths, l, draw(size, i), made);
+        ask_all(t, archive, entries, lengths, l, draw(size, i), made);
         i += 1;
     }
 }

@@ -22,8 +22,8 @@ pattern-requires c κs = search needs
 draw-requires : tie.Need-draw-requires Inv-loop μ-loop
 draw-requires c κs = search needs
 
-ask-both-requires : tie.Need-ask-both-requires Inv-loop μ-loop
-ask-both-requires c κs = search needs
+ask-all-requires : tie.Need-ask-all-requires Inv-loop μ-loop
+ask-all-requires c κs = search needs
 
 add-i : tie.Need-add-i Inv-loop μ-loop
 add-i c = search needs
@@ -47,7 +47,7 @@ ask-size-spec =
     loop-holds
     pattern-requires
     draw-requires
-    ask-both-requires
+    ask-all-requires
     add-i
     loop-less
     loop-again
