@@ -18,6 +18,9 @@ static void say(const char *name, uint32_t code, const uint32_t *values, size_t 
   snprintf(said + at, sizeof said - at, "\n");
 }
 
+/* These numbers as a slice: a pointer and a length. */
+#define SLICE(type, ...) (const type[]){__VA_ARGS__}, sizeof((const type[]){__VA_ARGS__}) / sizeof(type)
+
 static void write_library(void) {
   const uint32_t entries[] = {3, 1, 0, 3, 2, 1, 3, 0};
   const uint32_t lengths[] = {3, 0, 5};
@@ -72,8 +75,7 @@ static void count(const char *name, const uint32_t *set, size_t length, uint32_t
   say("  opened", code, &x, 1);
 }
 
-#define COUNT(name, place, ...) \
-  count(name, (const uint32_t[]){__VA_ARGS__}, sizeof((const uint32_t[]){__VA_ARGS__}) / sizeof(uint32_t), place)
+#define COUNT(name, place, ...) count(name, SLICE(uint32_t, __VA_ARGS__), place)
 
 /* A set of one counts as rank does, and all four documents count every entry. Refusal 19 comes before 11. */
 static void count_all(void) {
@@ -110,12 +112,15 @@ static void search(void) {
 }
 
 /* Rare terms weigh more: terms 0 and 2 have three and four of the four documents and weigh 1 and 0, term 1 has none and weighs 0. Documents
- * of score 0 are listed too, but those without an entry are not. Term 0 given twice counts once. */
+ * of score 0 are listed too, but those without an entry are not. Term 0 given twice counts once, and terms may be typed in any order. */
 static void weigh(void) {
   uint32_t answers[2 * N], work[4 * N], listed = 0, end[2] = {9, 9};
-  const uint32_t both[] = {0, 2}, twice[] = {0, 0};
+  const uint32_t both[] = {0, 2}, twice[] = {0, 0}, turned[] = {2, 0, 2, 0};
   uint32_t code = masuvelior_weighted(archive, size, both, 2, 4, 3, answers, 2 * N, work, 4 * N, &listed, &end[0], &end[1]);
   say("weighted 0 and 2, 4, 3", code, answers, 2 * listed);
+  say("  done", code, end, 2);
+  code = masuvelior_weighted(archive, size, turned, 4, 4, 3, answers, 2 * N, work, 4 * N, &listed, &end[0], &end[1]);
+  say("weighted 2, 0, 2 and 0, 4, 3", code, answers, 2 * listed);
   say("  done", code, end, 2);
   code = masuvelior_weighted(archive, size, both, 2, 4, 2, answers, 2 * N, work, 4 * N, &listed, &end[0], &end[1]);
   say("weighted 0 and 2, 4, 2", code, answers, 2 * listed);
@@ -133,6 +138,34 @@ static void weigh(void) {
   code = masuvelior_opened_weighted(archive, size, twice, 2, 2, 2, answers, 4, work, 4 * N, &listed, &end[0], &end[1]);
   say("opened weighted 0 and 0, 2, 2", code, answers, 2 * listed);
   say("  done", code, end, 2);
+}
+
+/* The order in which scores are added up, put to the checked function and to that of an opened archive: one line for each, with the size, the
+ * eight numbers and one behind them. An answer leaves the last as it was, which is 99, and a refusal all of them. */
+static void arrange(const char *name, const uint32_t *chosen, size_t length) {
+  enum { SHOWN = 1 + MASUVELIOR_MAX_CHOSEN + 1 };
+  for (int opened = 0; opened < 2; opened++) {
+    uint32_t shown[SHOWN];
+    for (size_t i = 0; i < SHOWN; i++) shown[i] = 99;
+    uint32_t code = opened ? masuvelior_opened_rarest_first(archive, size, chosen, length, shown + 1, shown)
+                           : masuvelior_rarest_first(archive, size, chosen, length, shown + 1, shown);
+    say(opened ? "  opened" : name, code, shown, SHOWN);
+  }
+}
+
+#define ARRANGE(name, ...) arrange(name, SLICE(uint32_t, __VA_ARGS__))
+
+/* Terms 0, 1 and 2 have three entries, none and five. Refusal 10 comes before 11, and both look at all that are given. */
+static void arrange_all(void) {
+  ARRANGE("order of 2, 0", 2, 0);
+  ARRANGE("order of 2, 1, 0", 2, 1, 0);
+  ARRANGE("order of 0, 0, 2", 0, 0, 2);
+  ARRANGE("order of 2, 2, 0, 2, 1, 0, 1, 2", 2, 2, 0, 2, 1, 0, 1, 2);
+  ARRANGE("order of 2", 2);
+  arrange("order of no terms", (const uint32_t[]){0}, 0);
+  ARRANGE("order of 0, nine times", 0, 0, 0, 0, 0, 0, 0, 0, 0);
+  ARRANGE("order of 3, nine times", 3, 3, 3, 3, 3, 3, 3, 3, 3);
+  ARRANGE("order of 0, 0, 3", 0, 0, 3);
 }
 
 enum { AND = MASUVELIOR_AND, OR = MASUVELIOR_OR, NOT = MASUVELIOR_NOT, OPEN = MASUVELIOR_OPEN, CLOSE = MASUVELIOR_CLOSE };
@@ -163,7 +196,7 @@ static void match_denied(const char *name, size_t times) {
   match(name, question, times + 1);
 }
 
-#define MATCH(name, ...) match(name, (const uint16_t[]){__VA_ARGS__}, sizeof((const uint16_t[]){__VA_ARGS__}) / sizeof(uint16_t))
+#define MATCH(name, ...) match(name, SLICE(uint16_t, __VA_ARGS__))
 
 /* Term 0 has the documents 0, 1 and 3, term 1 none, term 2 all. Refusal 18 comes before 11. */
 static void match_all(void) {
@@ -234,12 +267,14 @@ static void walk(void) {
 /* A refusal answers its number and leaves what is lent as it was. */
 static void refusals(void) {
   uint32_t x = 99, listed = 98, answers[2 * N] = {5, 5, 5, 5, 5, 5, 5, 5}, work[4 * N] = {6}, end[2] = {97, 96};
+  uint32_t order[MASUVELIOR_MAX_CHOSEN] = {4, 4, 4, 4, 4, 4, 4, 4};
   const uint32_t nine[] = {0, 0, 0, 0, 0, 0, 0, 0, 0}, three[] = {3}, repeated[] = {0, 0, 3}, falling[] = {3, 0};
   say("access 8", masuvelior_access(archive, size, 8, &x), &x, 1);
   say("opened access 8", masuvelior_opened_access(archive, size, 8, &x), &x, 1);
   say("select zeroth 0", masuvelior_select(archive, size, 0, 0, &x), &x, 1);
   say("opened select first 4", masuvelior_opened_select(archive, size, 4, 1, &x), &x, 1);
   say("rank of {3, 0}, one byte less", masuvelior_rank_set(archive, size - 1, falling, 2, 8, &x), &x, 1);
+  say("order of 0, nine times, one byte less", masuvelior_rarest_first(archive, size - 1, nine, 9, order, &listed), &listed, 1);
   say("nine terms", masuvelior_conjunction(archive, size, nine, 9, answers, 2 * N, &listed), &listed, 1);
   say("terms 0, 0 and 3", masuvelior_conjunction(archive, size, repeated, 3, answers, 2 * N, &listed), &listed, 1);
   say("opened no terms", masuvelior_opened_conjunction(archive, size, nine, 0, answers, 2 * N, &listed), &listed, 1);
@@ -262,6 +297,7 @@ static void refusals(void) {
   say("boolean, unread, one byte less", masuvelior_boolean(archive, size - 1, unread, 2, answers, N - 1, &listed), &listed, 1);
   say("  answers", 0, answers, 2 * N);
   say("  work", 0, work, 1);
+  say("  order", 0, order, MASUVELIOR_MAX_CHOSEN);
 }
 
 int main(int argc, char **argv) {
@@ -272,6 +308,7 @@ int main(int argc, char **argv) {
   count_all();
   search();
   weigh();
+  arrange_all();
   match_all();
   ask_opened();
   walk();

@@ -37,13 +37,14 @@
  * where a function's parameters or answers change. From 2.0 on a repeated term counts once (masuvelior_conjunction, masuvelior_weighted);
  * before, it counted each time. From 3.0 on masuvelior_select answers n where a document has fewer than j entries; before, UINT32_MAX. 3.1
  * added questions with and, or, not (masuvelior_boolean). From 4.0 on masuvelior_per_mille rounds to the nearest; before, down. 4.1 added
- * the count of a set of documents (masuvelior_rank_set). */
+ * the count of a set of documents (masuvelior_rank_set). 4.2 added the order in which a weighted score is added up
+ * (masuvelior_rarest_first). */
 #define MASUVELIOR_EDITION 1
 #define MASUVELIOR_VERSION_MAJOR 4
-#define MASUVELIOR_VERSION_MINOR 1
+#define MASUVELIOR_VERSION_MINOR 2
 
-/* The limits: n is 0 to MASUVELIOR_MAX_ENTRIES, N and W are 1 to theirs, a conjunction or a weighted search is given 1 to
- * MASUVELIOR_MAX_CHOSEN terms, a question with and, or, not has 1 to MASUVELIOR_MAX_QUESTION numbers and at most MASUVELIOR_MAX_DEPTH
+/* The limits: n is 0 to MASUVELIOR_MAX_ENTRIES, N and W are 1 to theirs, a conjunction, an order of terms or a weighted search is given 1
+ * to MASUVELIOR_MAX_CHOSEN terms, a question with and, or, not has 1 to MASUVELIOR_MAX_QUESTION numbers and at most MASUVELIOR_MAX_DEPTH
  * brackets open at once, and a set has 0 to MASUVELIOR_MAX_SET documents. */
 #define MASUVELIOR_MAX_ENTRIES 65535
 #define MASUVELIOR_MAX_DOCUMENTS 4096
@@ -223,6 +224,17 @@ MASUVELIOR_MUST_USE
 uint32_t masuvelior_range_of_terms(const uint8_t *archive, size_t archive_length, uint32_t first, uint32_t last,
                                    uint32_t *from, uint32_t *to);
 
+/* The order in which masuvelior_weighted adds up scores: the different ones among the chosen terms, each once, the term with the fewest
+ * entries first, of those with as many the lower number. Entries count, not different documents; terms without entries come first. Whichever
+ * way the terms are typed, in any order and repeated, it is the same. `size` is how many terms it has. `order` leads to room for
+ * MASUVELIOR_MAX_CHOSEN numbers, whatever is asked, so 12 is never given. An answer writes all of them, and nothing behind them: the terms
+ * in front, and 0 in the rest. Since 0 may be a term too, `size` alone says where the order ends. 10: no term or more than eight, before any
+ * drops out. 11: a term W or more, of all that are given.
+ * Cost: two numbers of the term table for each different term, and comparisons of the terms with each other; no ranks. */
+MASUVELIOR_MUST_USE
+uint32_t masuvelior_rarest_first(const uint8_t *archive, size_t archive_length, const uint32_t *chosen, size_t chosen_length,
+                                 uint32_t order[MASUVELIOR_MAX_CHOSEN], uint32_t *size);
+
 /* count * 1,000 / size to the nearest whole number, and an exact half to the even one: 3 of 16, which is 187 and a half, is 188. So it is 0
  * to 1,000; 0 does not say that count is 0, nor 1,000 that it is size. Takes no archive. 11: size 0, count above size. Cost: one division. */
 MASUVELIOR_MUST_USE
@@ -265,12 +277,14 @@ uint32_t masuvelior_probing_terms(const uint8_t *archive, size_t archive_length,
  * larger score, equal scores by lower number, as pairs of document and score. A term that df different documents have weighs the largest g
  * with 2^g * df^4 at most N^4, which is 0 to 48; a term without entries weighs 0. A document's score is the sum, over the chosen terms, of
  * the term's weight times the document's count under it: 0, with which it is listed too, to 3,145,680. A repeated term counts once: the
- * first stands, later ones drop out. The allowance, `spent` and `number` are as in masuvelior_greedy_entries, with scores for counts; a node
+ * first stands, later ones drop out. Scores are added up in the order of masuvelior_rarest_first; they and the whole answer are the same
+ * whichever way the terms are typed. The allowance, `spent` and `number` are as in masuvelior_greedy_entries, with scores for counts; a node
  * without an entry of these terms is never opened. 10: no term or more than eight, before any drops out. 11: a term W or more, of all that
  * are given.
- * Cost: for the weights, up to 4 ranks for each node where a term has two entries or more: at most h for each document of the term. Then 2 ranks,
- * and 2 for each different term with an entry there, for each node opened and for each node above it that is not above the one opened
- * before: at most h in all; for each node opened or document named a step in a heap of the waiting nodes; and 4 * N numbers cleared. */
+ * Cost: that of the order. For the weights, up to 4 ranks for each node where a term has two entries or more: at most h for each document of
+ * the term. Then 2 ranks, and 2 for each different term with an entry there, for each node opened and for each node above it that is not
+ * above the one opened before: at most h in all; for each node opened or document named a step in a heap of the waiting nodes; and 4 * N
+ * numbers cleared. */
 MASUVELIOR_MUST_USE
 uint32_t masuvelior_weighted(const uint8_t *archive, size_t archive_length, const uint32_t *chosen, size_t chosen_length, uint32_t k,
                              uint32_t allowance, uint32_t *answers, size_t answers_length, uint32_t *work, size_t work_length,
@@ -326,6 +340,10 @@ uint32_t masuvelior_opened_boolean(const uint8_t *archive, size_t archive_length
 MASUVELIOR_MUST_USE
 uint32_t masuvelior_opened_range_of_terms(const uint8_t *archive, size_t archive_length, uint32_t first, uint32_t last,
                                           uint32_t *from, uint32_t *to);
+
+MASUVELIOR_MUST_USE
+uint32_t masuvelior_opened_rarest_first(const uint8_t *archive, size_t archive_length, const uint32_t *chosen, size_t chosen_length,
+                                        uint32_t order[MASUVELIOR_MAX_CHOSEN], uint32_t *size);
 
 MASUVELIOR_MUST_USE
 uint32_t masuvelior_opened_greedy_entries(const uint8_t *archive, size_t archive_length, uint32_t a, uint32_t b, uint32_t k,

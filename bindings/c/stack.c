@@ -9,9 +9,12 @@
 enum { STACK = 1 << 17, PAINT = 0xA5, N = MASUVELIOR_MAX_DOCUMENTS, W = MASUVELIOR_MAX_TERMS, ENTRIES = MASUVELIOR_MAX_ENTRIES };
 enum { WRITER = 25 * 1024, BOOLEAN = 22 * 1024, READER = 17 * 1024, WEIGHTED = 7 * 1024, RANK_SET = 6 * 1024, OTHER = 4 * 1024 };
 
+/* Eight terms with as many entries each, typed descending, so that each has another place in their order. */
+static const uint32_t chosen[MASUVELIOR_MAX_CHOSEN] = {7, 6, 5, 4, 3, 2, 1, 0};
+
 /* A library at every limit, with entries in every node: calls go all their way. */
 static uint32_t entries[ENTRIES], lengths[W], answers[2 * N], work[4 * N], listed, spent, number;
-static const uint32_t chosen[MASUVELIOR_MAX_CHOSEN] = {0, 1, 2, 3, 4, 5, 6, 7};
+static uint32_t order[MASUVELIOR_MAX_CHOSEN];
 static uint16_t question[MASUVELIOR_MAX_QUESTION];
 static uint32_t set[MASUVELIOR_MAX_SET];
 static uint8_t archive[1 << 18];
@@ -56,6 +59,7 @@ static void make_set(void) {
   X(form##conjunction, OTHER, (BYTES, chosen, MASUVELIOR_MAX_CHOSEN, PAIRS))                                 \
   X(form##boolean, BOOLEAN, (BYTES, question, MASUVELIOR_MAX_QUESTION, answers, N, &listed))                 \
   X(form##range_of_terms, OTHER, (BYTES, 0, W - 1, &listed, &number))                                        \
+  X(form##rarest_first, OTHER, (BYTES, chosen, MASUVELIOR_MAX_CHOSEN, order, &number))                       \
   X(form##greedy_entries, OTHER, (BYTES, 0, ENTRIES, N, UINT32_MAX, SEARCH, &spent, &number))                \
   X(form##greedy_terms, OTHER, (BYTES, 0, W - 1, N, UINT32_MAX, SEARCH, &spent, &number))                    \
   X(form##probing_entries, OTHER, (BYTES, 0, ENTRIES, N, SEARCH))                                            \

@@ -71,6 +71,20 @@ void count(std::vector<uint8_t> &archive) {
   expect("all documents", whole == MASUVELIOR_OK && counted == 0);
 }
 
+// The order of terms: those without entries stand by their numbers, each once, and the rest of the eight numbers is 0. What is behind them stays
+// as it was, and so does everything after a refusal.
+void arrange(std::vector<uint8_t> &archive) {
+  uint32_t size = 9;
+  std::vector<uint32_t> order(MASUVELIOR_MAX_CHOSEN + 1, 9);
+  const std::vector<uint32_t> none, typed = {1, 0, 1}, unknown = {0, 2}, untouched = order;
+  const uint32_t empty = masuvelior_rarest_first(lent(archive), archive.size(), lent(none), none.size(), lent(order), &size);
+  expect("no terms to order", empty == MASUVELIOR_REFUSED_TERM_COUNT && size == 9 && order == untouched);
+  const uint32_t third = masuvelior_opened_rarest_first(lent(archive), archive.size(), lent(unknown), unknown.size(), lent(order), &size);
+  expect("a third term", third == MASUVELIOR_REFUSED_ARGUMENT && size == 9 && order == untouched);
+  const uint32_t both = masuvelior_rarest_first(lent(archive), archive.size(), lent(typed), typed.size(), lent(order), &size);
+  expect("both terms", both == MASUVELIOR_OK && size == 2 && order == std::vector<uint32_t>({0, 1, 0, 0, 0, 0, 0, 0, 9}));
+}
+
 // Questions with and, or, not: an empty one is refused before an empty answer slice is, and 'not' lists every document where a term has none.
 void match(std::vector<uint8_t> &archive) {
   uint32_t listed = 9;
@@ -95,6 +109,7 @@ int main() {
   std::vector<uint8_t> archive = without_entries();
   ask(archive);
   count(archive);
+  arrange(archive);
   match(archive);
   expect("macros of lengths of top-k", MASUVELIOR_TOP_K_LENGTH(UINT32_MAX, 4u) == 8 && MASUVELIOR_TOP_K_LENGTH(3, 4) == 6);
   expect("macros of lengths", MASUVELIOR_LIST_LENGTH(4) == 8 && MASUVELIOR_BOOLEAN_LENGTH(4) == 4);

@@ -2,7 +2,7 @@
 //!
 //!     cargo run --example build -- harbour.archive
 use masuvelior::Over::Terms;
-use masuvelior::{per_mille, write, Archive, Expr};
+use masuvelior::{per_mille, write, Archive, Expr, Refusal};
 use std::collections::BTreeMap;
 use std::error::Error;
 
@@ -35,12 +35,7 @@ fn main() -> Result<(), Box<dyn Error>> {
         println!("  {} times: {}", found.count, TEXTS[found.document as usize]);
     }
 
-    // 'storm' is in two of the texts and 'the' in four, so that it weighs more.
-    println!("'storm' or 'the', rare words first:");
-    let (found, _) = archive.weighted(&[numbers["storm"], numbers["the"]], 3, u32::MAX)?;
-    for scored in found {
-        println!("  score {}: {}", scored.score, TEXTS[scored.document as usize]);
-    }
+    by_score(&archive, &numbers)?;
 
     println!("'harbour' or 'boat', and not 'storm':");
     let term = |word: &str| Expr::term(numbers[word]);
@@ -65,6 +60,23 @@ fn main() -> Result<(), Box<dyn Error>> {
 
     if let Some(path) = std::env::args_os().nth(1) {
         std::fs::write(path, &bytes)?;
+    }
+    Ok(())
+}
+
+/// The weighted search, and the order in which it adds up scores.
+fn by_score(archive: &Archive, numbers: &BTreeMap<&str, u32>) -> Result<(), Refusal> {
+    // 'storm' is in two of the texts and 'the' in four, so that it weighs more.
+    println!("'storm' or 'the', by score:");
+    let (found, _) = archive.weighted(&[numbers["storm"], numbers["the"]], 3, u32::MAX)?;
+    for scored in found {
+        println!("  score {}: {}", scored.score, TEXTS[scored.document as usize]);
+    }
+
+    println!("'the', 'tide', 'storm' and 'the' again, rarest first:");
+    let words: Vec<&str> = numbers.keys().copied().collect(); // a term's number is its place in the dictionary
+    for term in archive.rarest_first(&["the", "tide", "storm", "the"].map(|word| numbers[word]))? {
+        println!("  {}, {} entries", words[term as usize], archive.range_of_terms(term..=term)?.len());
     }
     Ok(())
 }

@@ -24,6 +24,7 @@ use std::fmt;
 /// assert_eq!(archive.list(Terms(0..=0))?, [(0, 1), (1, 1), (3, 1)]);
 /// assert_eq!(archive.conjunction(&[0, 0])?, [(0, 1), (1, 1), (3, 1)]); // a repeated term counts once
 /// assert_eq!(archive.range_of_terms(1..=2), Ok(3..8));
+/// assert_eq!(archive.rarest_first(&[2, 1, 0])?, [1, 0, 2]); // by number of entries
 ///
 /// assert_eq!(archive.access(8), Err(Refusal::Argument(Argument::Place)));
 /// # Ok::<(), Refusal>(())

@@ -33,7 +33,7 @@ pub enum Argument {
     CrossedTerms,
     /// Terms f to l: l is W or more.
     LastTerm,
-    /// One of the terms of a conjunction, of a weighted search or of a question with and, or, not is W or more.
+    /// One of the terms of a conjunction, of an order, of a weighted search or of a question with and, or, not is W or more.
     Term,
     /// The rank is not below the range's size.
     Rank,

@@ -33,6 +33,7 @@
 //! let (documents, ended) = archive.weighted(&[0, 2], 4, 3)?;
 //! assert_eq!(documents, [(0, 1), (1, 1), (3, 1), (2, 0)]); // each with its score
 //! assert_eq!(ended, Ended::Done { openings: 3 });
+//! assert_eq!(archive.rarest_first(&[2, 0, 2])?, [0, 2]); // in this order scores are added up
 //!
 //! // Documents under term 2 and not under term 0.
 //! let question = Expr::term(2) & !Expr::term(0);

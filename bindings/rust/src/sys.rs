@@ -7,6 +7,9 @@
 //!
 //! References and slices of Rust, also empty ones, keep POINTERS; `&mut` keeps WRITTEN; `&` keeps CONST.
 
+/// How many terms may be given, and so how many an order has room for.
+pub const MASUVELIOR_MAX_CHOSEN: usize = 8;
+
 macro_rules! declare {
     ($($name:ident ( $($argument:ident : $type:ty),* );)*) => {
         // The checked questions are declared too: the tests ask them beside those of an opened archive.
@@ -39,6 +42,7 @@ declare! {
     masuvelior_conjunction(archive: *const u8, archive_length: usize, chosen: *const u32, chosen_length: usize, answers: *mut u32, answers_length: usize, listed: *mut u32);
     masuvelior_boolean(archive: *const u8, archive_length: usize, question: *const u16, question_length: usize, answers: *mut u32, answers_length: usize, listed: *mut u32);
     masuvelior_range_of_terms(archive: *const u8, archive_length: usize, first: u32, last: u32, from: *mut u32, to: *mut u32);
+    masuvelior_rarest_first(archive: *const u8, archive_length: usize, chosen: *const u32, chosen_length: usize, order: *mut [u32; MASUVELIOR_MAX_CHOSEN], size: *mut u32);
     masuvelior_greedy_entries(archive: *const u8, archive_length: usize, a: u32, b: u32, k: u32, allowance: u32, answers: *mut u32, answers_length: usize, work: *mut u32, work_length: usize, listed: *mut u32, spent: *mut u32, number: *mut u32);
     masuvelior_greedy_terms(archive: *const u8, archive_length: usize, first: u32, last: u32, k: u32, allowance: u32, answers: *mut u32, answers_length: usize, work: *mut u32, work_length: usize, listed: *mut u32, spent: *mut u32, number: *mut u32);
     masuvelior_probing_entries(archive: *const u8, archive_length: usize, a: u32, b: u32, k: u32, answers: *mut u32, answers_length: usize, work: *mut u32, work_length: usize, listed: *mut u32);
@@ -60,6 +64,7 @@ declare! {
     masuvelior_opened_conjunction(archive: *const u8, archive_length: usize, chosen: *const u32, chosen_length: usize, answers: *mut u32, answers_length: usize, listed: *mut u32);
     masuvelior_opened_boolean(archive: *const u8, archive_length: usize, question: *const u16, question_length: usize, answers: *mut u32, answers_length: usize, listed: *mut u32);
     masuvelior_opened_range_of_terms(archive: *const u8, archive_length: usize, first: u32, last: u32, from: *mut u32, to: *mut u32);
+    masuvelior_opened_rarest_first(archive: *const u8, archive_length: usize, chosen: *const u32, chosen_length: usize, order: *mut [u32; MASUVELIOR_MAX_CHOSEN], size: *mut u32);
     masuvelior_opened_greedy_entries(archive: *const u8, archive_length: usize, a: u32, b: u32, k: u32, allowance: u32, answers: *mut u32, answers_length: usize, work: *mut u32, work_length: usize, listed: *mut u32, spent: *mut u32, number: *mut u32);
     masuvelior_opened_greedy_terms(archive: *const u8, archive_length: usize, first: u32, last: u32, k: u32, allowance: u32, answers: *mut u32, answers_length: usize, work: *mut u32, work_length: usize, listed: *mut u32, spent: *mut u32, number: *mut u32);
     masuvelior_opened_probing_entries(archive: *const u8, archive_length: usize, a: u32, b: u32, k: u32, answers: *mut u32, answers_length: usize, work: *mut u32, work_length: usize, listed: *mut u32);

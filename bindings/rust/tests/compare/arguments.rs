@@ -24,6 +24,8 @@ fn of_one_number() {
         hold(archive.rank_set(&[], x), &[(x > 8, Argument::Before)]);
         hold(archive.conjunction(&[0, x]), &[(x >= 3, Argument::Term)]);
         hold(archive.weighted(&[x, 2], 2, 9), &[(x >= 3, Argument::Term)]);
+        hold(archive.rarest_first(&[2, x, 2]), &[(x >= 3, Argument::Term)]);
+        hold(archive.rarest_first_into(&[x], &mut [0; 8]), &[(x >= 3, Argument::Term)]);
         hold(archive.boolean(Expr::term(x.min(4_095)).or(Expr::term(2)).numbers()), &[(x >= 3, Argument::Term)]);
         for y in EDGES {
             hold(archive.rank(x, y), &[(x >= 4, Argument::Document), (y > 8, Argument::Before)]);

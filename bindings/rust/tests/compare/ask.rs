@@ -1,5 +1,5 @@
 //! Questions put through the crate: in vectors of its own, and in slices that we lend.
-use crate::questions::{Answer, Question, Span};
+use crate::questions::{singles, Answer, Question, Span};
 use masuvelior::{Archive, Counted, Ended, Over, Refusal, Scored};
 
 /// Slices to lend, full of numbers that differ from each other.
@@ -54,7 +54,8 @@ pub fn whole(archive: &Archive, question: &Question) -> Result<Answer, u32> {
         Question::Probing { span, k } => archive.probing(over(*span), *k).map(|found| pairs(&found)),
         Question::List { span } => archive.list(over(*span)).map(|found| pairs(&found)),
         Question::Conjunction { terms } => archive.conjunction(terms).map(|found| pairs(&found)),
-        Question::Boolean { question } => archive.boolean(question).map(|found| documents(&found)),
+        Question::Boolean { question } => archive.boolean(question).map(|found| singles(&found)),
+        Question::RarestFirst { terms } => archive.rarest_first(terms).map(|found| singles(&found)),
         _ => numbers(archive, question),
     };
     answer.map_err(Refusal::number)
@@ -75,7 +76,8 @@ pub fn lent(archive: &Archive, question: &Question, scratch: &mut Scratch) -> Re
         Question::Weighted { terms, k, allowance } => in_pairs::<Scored>(&mut scratch.first, |lent| {
             archive.weighted_into(terms, *k, *allowance, lent, work).map(|(found, ended)| with_end(found, ended))
         }),
-        Question::Boolean { question } => archive.boolean_into(question, &mut scratch.first).map(documents),
+        Question::Boolean { question } => archive.boolean_into(question, &mut scratch.first).map(singles),
+        Question::RarestFirst { terms } => archive.rarest_first_into(terms, eight(&mut scratch.first)).map(singles),
         _ => in_pairs::<Counted>(&mut scratch.first, |lent| lent_pairs(archive, question, lent, work)),
     };
     answer.map_err(Refusal::number)
@@ -134,8 +136,9 @@ fn flat<P: Copy + Into<(u32, u32)>>(found: &[P]) -> Vec<u32> {
     found.iter().flat_map(two).collect()
 }
 
-fn documents(found: &[u32]) -> Answer {
-    Answer { numbers: vec![found.len() as u32], first: found.to_vec(), second: vec![] }
+/// The room of an order: the first eight of the lent numbers.
+pub fn eight(lent: &mut [u32]) -> &mut [u32; 8] {
+    (&mut lent[..8]).try_into().unwrap()
 }
 
 fn pairs<P: Copy + Into<(u32, u32)>>(found: &[P]) -> Answer {

@@ -1,22 +1,16 @@
 //! Questions with and, or, not where their readings, refusals, slices and libraries are special.
 use crate::ask::Scratch;
 use crate::compare::{assert_met, compare, compare_in, compare_raw, needed, Met};
-use crate::library::{archive, open, Library};
+use crate::faults::compare_with_faults;
+use crate::library::{archive, Library};
 use crate::questions::{answer, Lent, Question};
 use crate::random::{self, Random};
-use crate::raw::Form;
-use crate::scores::{archives, library};
+use crate::raw::FORMS;
+use crate::scores::{library, small};
 use crate::sweep::with_archive;
 use crate::{quick, rounds};
 use masuvelior::marks::{AND, CLOSE, NOT, OPEN, OR};
 use masuvelior::Archive;
-
-const FORMS: [Form; 2] = [Form::Checked, Form::Opened];
-
-/// N 4; term 0 has the documents 0, 1 and 3, term 1 none, term 2 all.
-fn small() -> Library {
-    library(4, &[&[3, 1, 0], &[], &[3, 2, 1, 3, 0]])
-}
 
 /// Puts a question in every way, in slices that are just long enough.
 fn ask(archive: &Archive, library: &Library, question: &[u16], met: &mut Met) {
@@ -182,7 +176,6 @@ fn longer_by_far() {
 /// Every refusal, alone and with each set of others: faults of the archive, of the reading, of a term and of the slice.
 #[test]
 fn every_refusal_and_every_order() {
-    let small = open(&archives()[0].0).unwrap();
     let deep = in_brackets(9, &[3]);
     let questions: [&[u16]; 12] = [
         &[2, AND, NOT, 0],
@@ -199,18 +192,10 @@ fn every_refusal_and_every_order() {
         &[60_005],
     ];
     let mut met = Met::new();
-    for (bytes, fault) in archives() {
-        for question in questions {
-            for first in [0, 1, 3, 4, 5, 8] {
-                let question = Question::Boolean { question: question.to_vec() };
-                let slices = Lent { first, second: 0 };
-                let right = if fault > 0 { Err(fault) } else { answer(&small, &question, slices) };
-                compare_raw(&bytes, Form::Checked, &question, slices, &right);
-                if fault == 0 {
-                    compare_raw(&bytes, Form::Opened, &question, slices, &right);
-                }
-                met.insert(right.err().unwrap_or(0));
-            }
+    for question in questions {
+        let question = Question::Boolean { question: question.to_vec() };
+        for first in [0, 1, 3, 4, 5, 8] {
+            compare_with_faults(&question, Lent { first, second: 0 }, &mut met);
         }
     }
     assert_eq!(met, Met::from([0, 1, 2, 3, 4, 5, 6, 7, 8, 9, 11, 12, 18]));

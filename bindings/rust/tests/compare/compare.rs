@@ -4,7 +4,7 @@ use crate::library::{open, Library};
 use crate::questions::{answer, Answer, Lent, Question, ROOM};
 use crate::quick;
 use crate::random::{self, Random};
-use crate::raw::{ask, Form, UNWRITTEN};
+use crate::raw::{ask, Form, FORMS, UNWRITTEN};
 use masuvelior::{Archive, Refusal};
 use std::collections::BTreeSet;
 use std::ops::RangeInclusive;
@@ -19,6 +19,7 @@ pub fn needed(library: &Library, question: &Question) -> Lent {
         Question::Read => (library.entries.len(), library.lengths.len()),
         Question::List { .. } | Question::Conjunction { .. } => (2 * documents, 0),
         Question::Boolean { .. } => (documents, 0),
+        Question::RarestFirst { .. } => (8, 0),
         Question::Greedy { k, .. } | Question::Probing { k, .. } | Question::Weighted { k, .. } => {
             (2 * documents.min(*k as usize), 4 * documents)
         }
@@ -27,40 +28,53 @@ pub fn needed(library: &Library, question: &Question) -> Lent {
     Lent { first, second }
 }
 
+/// Slices for a question, too short at times; but an order has room for eight numbers whatever is asked, and at times more behind them.
+fn random_slices(random: &mut Random, library: &Library, question: &Question) -> Lent {
+    let mut slices = random::lent(random, needed(library, question));
+    if let Question::RarestFirst { .. } = question {
+        slices.first = slices.first.max(8);
+    }
+    slices
+}
+
 /// Puts a question to an archive of this library in every way.
 pub fn compare(archive: &Archive, library: &Library, question: &Question, slices: Lent, met: &mut Met) {
     compare_whole(archive, library, question);
     compare_lent(archive, library, question, slices);
     let right = answer(library, question, slices);
-    for form in [Form::Checked, Form::Opened] {
+    for form in FORMS {
         compare_raw(archive.bytes(), form, question, slices, &right);
     }
     met.insert(right.err().unwrap_or(0));
 }
 
 fn compare_whole(archive: &Archive, library: &Library, question: &Question) {
-    let right = without_work(question, answer(library, question, ROOM));
+    let right = as_given(question, answer(library, question, ROOM));
     assert_eq!(whole(archive, question), right, "{question:?} of {library:?}");
 }
 
-/// The answer as the crate gives it: the work slice is no part of it.
-fn without_work(question: &Question, mut right: Result<Answer, u32>) -> Result<Answer, u32> {
-    if let (Ok(right), false) = (&mut right, *question == Question::Read) {
-        right.second.clear();
+/// The answer as the crate gives it: the work slice is no part of it, nor are the zeros behind an order.
+fn as_given(question: &Question, mut right: Result<Answer, u32>) -> Result<Answer, u32> {
+    if let Ok(right) = &mut right {
+        match question {
+            Question::Read => {}
+            Question::RarestFirst { .. } => right.first.truncate(right.numbers[0] as usize),
+            _ => right.second.clear(),
+        }
     }
     right
 }
 
 fn compare_lent(archive: &Archive, library: &Library, question: &Question, slices: Lent) {
     let mut scratch = Scratch::new(slices.first, slices.second);
-    if !matches!(question, Question::Read | Question::Boolean { .. }) {
+    if !matches!(question, Question::Read | Question::Boolean { .. } | Question::RarestFirst { .. }) {
         scratch.first.truncate(slices.first / 2 * 2); // pairs are lent
     }
     let size = Lent { first: scratch.first.len(), second: scratch.second.len() };
     let right = answer(library, question, size);
     let after = scratch.after(&right);
     let got = lent(archive, question, &mut scratch);
-    let right = without_work(question, right);
+    let right = as_given(question, right);
     assert_eq!(got, right, "{question:?}, lent {slices:?}, of {library:?}");
     assert_eq!(scratch, after, "{question:?}, lent {slices:?}, of {library:?}");
 }
@@ -90,7 +104,7 @@ pub fn compare_in(bytes: &[u8], form: Form, question: &Question, mut scratch: Sc
 pub fn compare_random(random: &mut Random, archive: &Archive, library: &Library, questions: usize, met: &mut Met) {
     for _ in 0..questions {
         let question = random::question(random, library);
-        let slices = random::lent(random, needed(library, &question));
+        let slices = random_slices(random, library, &question);
         compare(archive, library, &question, slices, met);
     }
 }
@@ -118,7 +132,7 @@ pub fn compare_bytes(random: &mut Random, bytes: &[u8], questions: usize, met: &
 fn refused(random: &mut Random, bytes: &[u8], right: u32) {
     let none = Library { entries: vec![0; 4], lengths: vec![4], documents: 4 };
     let question = random::question(random, &none);
-    let slices = random::lent(random, needed(&none, &question));
+    let slices = random_slices(random, &none, &question);
     compare_raw(bytes, Form::Checked, &question, slices, &Err(right));
 }
 

@@ -1,5 +1,6 @@
-//! The declarations in `src/sys.rs` are those of the C header, all of them, and so is what it cites. The header's refusals, its marks and its
-//! version are the crate's.
+//! The declarations in `src/sys.rs` are those of the C header, all of them, and so is what it cites. The header's refusals, its marks, the
+//! room of an order and its version are the crate's.
+use crate::sys::MASUVELIOR_MAX_CHOSEN;
 use masuvelior::{marks, Refusal};
 
 const HEADER: &str = include_str!("../../../c/masuvelior.h");
@@ -14,8 +15,12 @@ fn code() -> String {
     code
 }
 
-/// A parameter of C as Rust writes it.
+/// A parameter of C as Rust writes it. An array is a pointer in C, which does not hold its caller to the room; in Rust the type does.
 fn parameter(c: &str) -> String {
+    if let Some((c, size)) = c.strip_suffix(']').and_then(|c| c.split_once('[')) {
+        let name = c.strip_prefix("uint32_t ").expect("arrays are of uint32_t");
+        return format!("{name}: *mut [u32; {size}]");
+    }
     let name = c.rsplit([' ', '*']).next().unwrap();
     let kind = match c.strip_suffix(name).unwrap().trim() {
         "uint32_t" => "u32",
@@ -49,7 +54,7 @@ fn declared_as_in_the_header() {
     }
     assert_eq!(declared.len(), functions.len());
     assert_eq!(functions.len(), code().matches("uint32_t masuvelior_").count());
-    assert!(functions.len() >= 38);
+    assert!(functions.len() >= 40);
 }
 
 /// What the SAFETY comments cite stands in the header, word for word.
@@ -97,6 +102,11 @@ fn marks_of_the_header() {
         let line = format!("#define MASUVELIOR_{name} {number}\n");
         assert!(HEADER.contains(&line), "the header has no: {line}");
     }
+}
+
+#[test]
+fn room_of_an_order() {
+    assert!(HEADER.contains(&format!("#define MASUVELIOR_MAX_CHOSEN {MASUVELIOR_MAX_CHOSEN}\n")));
 }
 
 #[test]

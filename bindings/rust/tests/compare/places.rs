@@ -4,12 +4,10 @@ use crate::ask::Scratch;
 use crate::library::Library;
 use crate::questions::{answer, Question, ROOM};
 use crate::random::{self, Random};
-use crate::raw::{ask, Form};
+use crate::raw::{ask, Form, FORMS};
 use crate::sweep::with_archive;
 use crate::{quick, rounds};
 use masuvelior::{Archive, Argument, Refusal};
-
-const FORMS: [Form; 2] = [Form::Checked, Form::Opened];
 
 /// Asks through a C name: what it answers, and what is in the out-parameter, which held `before`.
 fn raw(bytes: &[u8], form: Form, document: u32, j: u32, before: u32) -> (u32, u32) {

@@ -115,6 +115,22 @@ fn weighted_of_the_small_library() -> Result<(), Refusal> {
     Ok(())
 }
 
+/// Terms 0, 1 and 2 have three entries, none and five.
+#[test]
+fn order_of_the_small_library() -> Result<(), Refusal> {
+    let bytes = write(&[3, 1, 0, 3, 2, 1, 3, 0], &[3, 0, 5], 4)?;
+    let archive = Archive::open(&bytes)?;
+    let cases: [(&[u32], &[u32]); 3] = [(&[2, 0], &[0, 2]), (&[2, 1, 0], &[1, 0, 2]), (&[0, 0, 2], &[0, 2])];
+    for (terms, order) in cases {
+        assert_eq!(archive.rarest_first(terms)?, order, "{terms:?}");
+    }
+    for refused in [&[][..], &[0; 9], &[3; 9]] {
+        assert_eq!(archive.rarest_first(refused), Err(Refusal::TermCount), "{refused:?}");
+    }
+    assert_eq!(archive.rarest_first(&[0, 3]), Err(Refusal::Argument(Argument::Term)));
+    Ok(())
+}
+
 /// Term 0 has the documents 0, 1 and 3, term 1 none, term 2 all.
 #[test]
 fn boolean_of_the_small_library() -> Result<(), Refusal> {

@@ -1,7 +1,8 @@
 //! The model of the questions, after `docs/FORMAT.md`: plain counts over the plain list.
-use crate::library::{height, Library};
+use crate::library::Library;
 use crate::readings::{documents, reading};
-use crate::weighted::weigh;
+use crate::top_k::{greedy, probing, ranked, top_k_room, with_allowance};
+use crate::weighted::{rarest_first, weigh};
 
 /// A range: entries a to b, or terms first to last.
 #[derive(Clone, Copy, Debug, PartialEq)]
@@ -23,12 +24,13 @@ pub enum Question {
     Conjunction { terms: Vec<u32> },
     Boolean { question: Vec<u16> },
     RangeOfTerms { first: u32, last: u32 },
+    RarestFirst { terms: Vec<u32> },
     Greedy { span: Span, k: u32, allowance: u32 },
     Probing { span: Span, k: u32 },
     Weighted { terms: Vec<u32>, k: u32, allowance: u32 },
 }
 
-/// How many numbers are lent in the first slice (answers, or entries) and in the second (work, or term lengths).
+/// How many numbers are lent in the first slice (answers, entries, or an order) and in the second (work, or term lengths).
 #[derive(Clone, Copy, Debug)]
 pub struct Lent {
     pub first: usize,
@@ -58,26 +60,18 @@ pub fn answer(library: &Library, question: &Question, lent: Lent) -> Result<Answ
         Question::RankSet { set, place } => one(rank_set(library, set, *place)),
         Question::Select { document, j } => one(select(library, *document, *j)),
         Question::Quantile { span, r } => one(quantile(library, *span, *r)),
-        Question::List { span } => {
-            let found = listing(part(library, *span)?, library.documents);
-            let room = 2 * library.documents as usize;
-            enough(lent.first, room, 12)?;
-            Ok(listed(found))
-        }
-        Question::Conjunction { terms } => {
-            let found = conjunction(library, terms)?;
-            enough(lent.first, 2 * library.documents as usize, 12)?;
-            Ok(listed(found))
-        }
+        Question::List { span } => list(library, listing(part(library, *span)?, library.documents), lent),
+        Question::Conjunction { terms } => list(library, conjunction(library, terms)?, lent),
         Question::Boolean { question } => {
             let found = boolean(library, question)?;
             enough(lent.first, library.documents as usize, 12)?;
-            Ok(Answer { numbers: vec![found.len() as u32], first: found, second: vec![] })
+            Ok(singles(&found))
         }
         Question::RangeOfTerms { first, last } => {
             let (from, to) = term_range(library, *first, *last)?;
             Ok(Answer { numbers: vec![from as u32, to as u32], ..Answer::default() })
         }
+        Question::RarestFirst { terms } => rarest_first(library, terms).map(order),
         Question::Greedy { span, k, allowance } => {
             let range = part(library, *span)?;
             top_k_room(library, *k, lent)?;
@@ -86,8 +80,7 @@ pub fn answer(library: &Library, question: &Question, lent: Lent) -> Result<Answ
         Question::Probing { span, k } => {
             let range = part(library, *span)?;
             top_k_room(library, *k, lent)?;
-            let found = listed(full_list(range, library.documents, *k));
-            Ok(with_work(found, library))
+            Ok(probing(library, range, *k))
         }
         Question::Weighted { terms, k, allowance } => {
             let weighed = weigh(library, terms)?;
@@ -102,30 +95,39 @@ fn one(number: Result<u32, u32>) -> Result<Answer, u32> {
     number.map(|number| Answer { numbers: vec![number], ..Answer::default() })
 }
 
-fn enough(lent: usize, room: usize, refusal: u32) -> Result<(), u32> {
+/// The refusal, where too few numbers are lent.
+pub fn enough(lent: usize, room: usize, refusal: u32) -> Result<(), u32> {
     if lent < room {
         return Err(refusal);
     }
     Ok(())
 }
 
-fn top_k_room(library: &Library, k: u32, lent: Lent) -> Result<(), u32> {
-    enough(lent.first, 2 * k.min(library.documents) as usize, 12)?;
-    enough(lent.second, 4 * library.documents as usize, 13)
+/// Pairs of all documents that there may be, in a slice that is long enough.
+fn list(library: &Library, pairs: Pairs, lent: Lent) -> Result<Answer, u32> {
+    enough(lent.first, 2 * library.documents as usize, 12)?;
+    Ok(listed(pairs))
+}
+
+/// An answer of single numbers: how many, and these.
+pub fn singles(found: &[u32]) -> Answer {
+    Answer { numbers: vec![found.len() as u32], first: found.to_vec(), second: vec![] }
+}
+
+/// An order of terms: how many, and these in front of as many zeros as eight numbers have room for.
+fn order(terms: Vec<u32>) -> Answer {
+    let mut answer = singles(&terms);
+    answer.first.resize(8, 0);
+    answer
 }
 
 /// An answer of pairs: how many, and the pairs one number after the other.
-fn listed(pairs: Pairs) -> Answer {
+pub fn listed(pairs: Pairs) -> Answer {
     Answer {
         numbers: vec![pairs.len() as u32],
         first: pairs.iter().flat_map(|pair| [pair.0, pair.1]).collect(),
         second: vec![],
     }
-}
-
-/// After top-k the first 4 × N numbers of the work slice are 0.
-fn with_work(found: Answer, library: &Library) -> Answer {
-    Answer { second: vec![0; 4 * library.documents as usize], ..found }
 }
 
 fn read(library: &Library, lent: Lent) -> Result<Answer, u32> {
@@ -208,7 +210,7 @@ pub fn counts(range: &[u32], size: u32) -> Vec<u32> {
 }
 
 /// Every document of the range once, ascending, with its count.
-fn listing(range: &[u32], documents: u32) -> Pairs {
+pub fn listing(range: &[u32], documents: u32) -> Pairs {
     (0..documents).zip(counts(range, documents)).filter(|pair| pair.1 > 0).collect()
 }
 
@@ -245,65 +247,6 @@ fn boolean(library: &Library, question: &[u16]) -> Result<Vec<u32>, u32> {
         return Err(11);
     }
     Ok(documents(library, &tree).into_iter().collect())
-}
-
-/// The first k documents of the range by larger count, then lower number.
-fn full_list(range: &[u32], documents: u32, k: u32) -> Pairs {
-    ranked(listing(range, documents), k)
-}
-
-/// The first k of these documents by larger count or score, then lower number.
-fn ranked(mut ranking: Pairs, k: u32) -> Pairs {
-    ranking.sort_by(|x, y| y.1.cmp(&x.1).then(x.0.cmp(&y.0)));
-    ranking.truncate(k as usize);
-    ranking
-}
-
-/// The nodes of two or more numbers: start and count of each.
-fn nodes(range: &[u32], documents: u32) -> Pairs {
-    let h = height(documents);
-    let counts = counts(range, 1 << h);
-    let mut nodes = Vec::new();
-    for depth in 0..h {
-        let size = 1 << (h - depth);
-        for (i, node) in counts.chunks(size).enumerate() {
-            nodes.push(((i * size) as u32, node.iter().sum()));
-        }
-    }
-    nodes
-}
-
-/// The need of a front part of the full list.
-fn need(nodes: &[(u32, u32)], front: &[(u32, u32)]) -> u32 {
-    let Some((last, last_count)) = front.last() else {
-        return 0;
-    };
-    let counts = |node: &&(u32, u32)| {
-        let (start, count) = **node;
-        count > *last_count || count == *last_count && start <= *last
-    };
-    nodes.iter().filter(counts).count() as u32
-}
-
-fn greedy(library: &Library, range: &[u32], k: u32, allowance: u32) -> Answer {
-    let full = full_list(range, library.documents, k);
-    with_allowance(library, full, &nodes(range, library.documents), allowance)
-}
-
-/// 'Done' with the full list and its need, or 'spent' with the longest front part that the allowance covers.
-fn with_allowance(library: &Library, mut full: Pairs, nodes: &[(u32, u32)], allowance: u32) -> Answer {
-    let needed = need(nodes, &full);
-    let (spent, number) = if needed <= allowance {
-        (0, needed)
-    } else {
-        let covered = |front: &usize| need(nodes, &full[..*front]) <= allowance;
-        let front = (0..full.len()).rev().find(covered).unwrap();
-        full.truncate(front);
-        (1, allowance)
-    };
-    let mut found = listed(full);
-    found.numbers.extend([spent, number]);
-    with_work(found, library)
 }
 
 /// The rate: of 0 to 1,000 the number nearest to the quotient, and of two equally near the even one.

@@ -104,7 +104,7 @@ pub fn question(random: &mut Random, library: &Library) -> Question {
     let n = library.entries.len() as u32;
     let (documents, terms) = (library.documents, library.lengths.len() as u32);
     let span = span(random, library);
-    match random.below(18) {
+    match random.below(20) {
         0 => Question::Read,
         1 => Question::Access { place: random.near(n) },
         2 => Question::Rank { document: random.near(documents), place: random.near(n + 1) },
@@ -117,6 +117,7 @@ pub fn question(random: &mut Random, library: &Library) -> Question {
         10 | 11 => weighted(random, library),
         12 | 13 => boolean(random, terms),
         14 | 15 => rank_set(random, library),
+        16 | 17 => Question::RarestFirst { terms: chosen(random, terms) },
         _ => Question::Greedy { span, k: random.near(documents + 1), allowance: random.near(2 * documents) },
     }
 }
@@ -161,7 +162,7 @@ pub fn weighted(random: &mut Random, library: &Library) -> Question {
 }
 
 /// Mostly one to three terms; at times none, up to eight, or more.
-fn chosen(random: &mut Random, terms: u32) -> Vec<u32> {
+pub fn chosen(random: &mut Random, terms: u32) -> Vec<u32> {
     let size = match random.below(8) {
         0 => random.below(11),
         _ => 1 + random.below(3),

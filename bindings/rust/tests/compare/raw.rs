@@ -1,5 +1,5 @@
 //! Questions put through the C names, checked or of an archive opened before.
-use crate::ask::Scratch;
+use crate::ask::{eight, Scratch};
 use crate::questions::{Question, Span};
 use crate::sys::*;
 use masuvelior::marks::AND;
@@ -14,6 +14,8 @@ pub enum Form {
     /// Only for bytes that `masuvelior_open` accepts.
     Opened,
 }
+
+pub const FORMS: [Form; 2] = [Form::Checked, Form::Opened];
 
 /// The function of a form, and of a range.
 macro_rules! function {
@@ -53,9 +55,10 @@ fn with_and_more(question: &[u16]) -> Vec<u16> {
 /// Puts the question; the answer is the number that the function answers. The caller keeps what `Form::Opened` says.
 pub fn ask(bytes: &[u8], form: Form, question: &Question, scratch: &mut Scratch, out: &mut [u32; 3]) -> u32 {
     match question {
-        Question::List { .. } | Question::Conjunction { .. } | Question::Boolean { .. } => {
-            one_slice(bytes, form, question, &mut scratch.first, &mut out[0])
-        }
+        Question::List { .. }
+        | Question::Conjunction { .. }
+        | Question::Boolean { .. }
+        | Question::RarestFirst { .. } => one_slice(bytes, form, question, &mut scratch.first, &mut out[0]),
         Question::Read | Question::Greedy { .. } | Question::Probing { .. } | Question::Weighted { .. } => {
             two_slices(bytes, form, question, scratch, out)
         }
@@ -120,6 +123,11 @@ fn one_slice(bytes: &[u8], form: Form, question: &Question, answers: &mut [u32],
                 let ask = function!(form; masuvelior_boolean, masuvelior_opened_boolean);
                 let more = with_and_more(question);
                 ask(archive, length, more.as_ptr(), question.len(), first, first_length, listed)
+            }
+            Question::RarestFirst { terms } => {
+                let ask = function!(form; masuvelior_rarest_first, masuvelior_opened_rarest_first);
+                let chosen = with_more(terms);
+                ask(archive, length, chosen.as_ptr(), terms.len(), eight(answers), listed)
             }
             _ => unreachable!("not of one slice: {question:?}"),
         }

@@ -6,7 +6,7 @@ use crate::library::Library;
 use crate::questions::{answer, Question, ROOM};
 use crate::quick;
 use crate::random::Random;
-use crate::scores::library;
+use crate::scores::{library, small};
 use crate::sweep::with_archive;
 use crate::weighted::weight;
 use masuvelior::Archive;
@@ -28,10 +28,9 @@ fn cases() -> [Case; 3] {
     for (term, list) in [0, 256, 512].into_iter().zip(WEIGHED) {
         apart[term] = list;
     }
-    let small: [&[u32]; 3] = [&[3, 1, 0], &[], &[3, 2, 1, 3, 0]];
     [
         Case { library: library(8, &WEIGHED), three: [0, 1, 2], step: 1 },
-        Case { library: library(4, &small), three: [0, 1, 2], step: 1 },
+        Case { library: small(), three: [0, 1, 2], step: 1 },
         Case { library: library(8, &apart), three: [512, 0, 256], step: 5 },
     ]
 }
@@ -50,19 +49,20 @@ fn different(given: &[u32], three: [u32; 3]) -> Vec<u32> {
     different
 }
 
-/// Both questions of these terms, the weighted search whole and cut short in one of many ways.
-fn both(terms: &[u32], way: u32) -> [Question; 3] {
+/// All questions of these terms, the weighted search whole and cut short in one of many ways.
+fn questions(terms: &[u32], way: u32) -> [Question; 4] {
     let terms = terms.to_vec();
     [
         Question::Conjunction { terms: terms.clone() },
         Question::Weighted { terms: terms.clone(), k: u32::MAX, allowance: u32::MAX },
+        Question::RarestFirst { terms: terms.clone() },
         Question::Weighted { terms, k: way % 7, allowance: way % 8 },
     ]
 }
 
-/// Both questions of these terms, in every way, beside the model.
-fn compare_both(archive: &Archive, library: &Library, terms: &[u32], met: &mut Met) {
-    for question in both(terms, terms.len() as u32) {
+/// All questions of these terms, in every way, beside the model.
+fn compare_all(archive: &Archive, library: &Library, terms: &[u32], met: &mut Met) {
+    for question in questions(terms, terms.len() as u32) {
         compare(archive, library, &question, needed(library, &question), met);
     }
 }
@@ -84,8 +84,8 @@ fn every_pattern() {
         let patterns = (0..).zip((1..=8).flat_map(|size| patterns(size, *three)));
         let mut count = 0;
         for (way, given) in patterns.step_by(if quick() { 97 } else { *step }) {
-            let alone = both(&different(&given, *three), way);
-            for (question, alone) in both(&given, way).iter().zip(&alone) {
+            let alone = questions(&different(&given, *three), way);
+            for (question, alone) in questions(&given, way).iter().zip(&alone) {
                 compare(archive, library, question, needed(library, question), &mut met);
                 assert_eq!(whole(archive, question), whole(archive, alone), "{question:?} of {library:?}");
             }
@@ -107,7 +107,7 @@ fn sets_are_told_apart() {
     let sets: [&[u32]; 7] = [&[0], &[1], &[2], &[0, 1], &[0, 2], &[1, 2], &[0, 1, 2]];
     for (i, x) in sets.iter().enumerate() {
         for y in &sets[..i] {
-            for (of_x, of_y) in both(x, 0).iter().zip(&both(y, 0)).take(2) {
+            for (of_x, of_y) in questions(x, 0).iter().zip(&questions(y, 0)).take(3) {
                 assert_ne!(answer(library, of_x, ROOM), answer(library, of_y, ROOM), "{x:?} and {y:?}");
             }
         }
@@ -121,11 +121,11 @@ fn more_than_eight() {
     with_cases(52, |archive, Case { library, three, .. }| {
         for size in 9..=20 {
             for term in three.iter().copied().chain([archive.terms(), u32::MAX]) {
-                compare_both(archive, library, &vec![term; size], &mut met);
+                compare_all(archive, library, &vec![term; size], &mut met);
             }
         }
         for given in patterns(9, *three).step_by(if quick() { 997 } else { 5 }) {
-            compare_both(archive, library, &given, &mut met);
+            compare_all(archive, library, &given, &mut met);
         }
     });
     assert_eq!(met, Met::from([10]));
@@ -140,11 +140,11 @@ fn eight_and_one_of_them_again() {
     let library = library(9, &lists);
     with_archive(&mut Random::new(53), &library, |_, archive| {
         let all: Vec<u32> = (0..8).rev().collect();
-        compare_both(archive, &library, &all, &mut eight);
+        compare_all(archive, &library, &all, &mut eight);
         for (place, term) in (0..=8).flat_map(|place| (0..8).map(move |term| (place, term))) {
             let mut given = all.clone();
             given.insert(place, term);
-            compare_both(archive, &library, &given, &mut nine);
+            compare_all(archive, &library, &given, &mut nine);
         }
     });
     assert_eq!((eight, nine), (Met::from([0]), Met::from([10])));
@@ -161,7 +161,7 @@ fn unknown_among_repeated() {
                 for (x, y) in (0..size).flat_map(|x| (0..=x).map(move |y| (x, y))) {
                     let mut given = given[..size].to_vec();
                     (given[x], given[y]) = (unknown, unknown);
-                    compare_both(archive, library, &given, &mut met);
+                    compare_all(archive, library, &given, &mut met);
                 }
             }
         }
@@ -180,6 +180,7 @@ fn behind_the_given() {
                 let front = &more[..given.len()];
                 assert_eq!(archive.conjunction(front), archive.conjunction(&given), "{more:?}");
                 assert_eq!(archive.weighted(front, 9, 9), archive.weighted(&given, 9, 9), "{more:?}");
+                assert_eq!(archive.rarest_first(front), archive.rarest_first(&given), "{more:?}");
             }
         }
     });

@@ -1,10 +1,11 @@
 //! The weighted search where its weights, scores, needs, refusals and slices are special.
 use crate::ask::Scratch;
-use crate::compare::{assert_met, compare, compare_in, compare_raw, needed, Met};
-use crate::library::{archive, height, open, Library};
+use crate::compare::{assert_met, compare, compare_in, needed, Met};
+use crate::faults::compare_with_faults;
+use crate::library::{archive, height, Library};
 use crate::questions::{answer, Lent, Question, ROOM};
 use crate::random::{self, Random};
-use crate::raw::Form;
+use crate::raw::FORMS;
 use crate::sweep::with_archive;
 use crate::weighted::weight;
 use crate::{quick, rounds};
@@ -14,6 +15,11 @@ use masuvelior::{write, Archive, Ended, Refusal};
 pub fn library(documents: u32, terms: &[&[u32]]) -> Library {
     let lengths = terms.iter().map(|term| term.len() as u32).collect();
     Library { entries: terms.concat(), lengths, documents }
+}
+
+/// The small library: term 0 has the documents 0, 1 and 3, term 1 none, term 2 all, document 3 twice.
+pub fn small() -> Library {
+    library(4, &[&[3, 1, 0], &[], &[3, 2, 1, 3, 0]])
 }
 
 /// Asks for some terms with every k and every allowance, up to one more than matters.
@@ -141,42 +147,16 @@ fn cases_that_tell_readings_apart() -> Result<(), Refusal> {
     Ok(())
 }
 
-/// The small library, and for each refusal of an archive bytes that have it.
-pub fn archives() -> Vec<(Vec<u8>, u32)> {
-    let small = archive(&library(4, &[&[3, 1, 0], &[], &[3, 2, 1, 3, 0]]));
-    let odd = archive(&library(5, &[&[4, 0, 2], &[4, 1]]));
-    let changed = |bytes: &[u8], at: usize, byte: u8| {
-        let mut bytes = bytes.to_vec();
-        bytes[at] = byte;
-        bytes
-    };
-    let mut all = vec![(small.clone(), 0), (small[..39].to_vec(), 1)];
-    all.extend([(0, 2, 2), (8, 0, 3), (16, 41, 4)].map(|(at, byte, refusal)| (changed(&small, at, byte), refusal)));
-    all.push((small[..73].to_vec(), 5));
-    all.extend([(40, 1, 6), (64, 1, 7)].map(|(at, byte, refusal)| (changed(&small, at, byte), refusal)));
-    all.extend([(68, 0x29, 8), (70, 0x0A, 9)].map(|(at, byte, refusal)| (changed(&odd, at, byte), refusal)));
-    all
-}
-
 /// Every refusal, alone and with each set of others: faults of the archive, of the number of terms, of a term, and of both slices.
 #[test]
 fn every_refusal_and_every_order() {
-    let small = open(&archives()[0].0).unwrap();
     let choices: [&[u32]; 9] =
         [&[0, 2], &[2, 0, 2, 2], &[], &[0; 9], &[3], &[0, 3], &[u32::MAX, 0], &[3; 9], &[0, 0, 0, 0, 0, 0, 0, 3]];
     let mut met = Met::new();
-    for (bytes, fault) in archives() {
-        for terms in choices {
-            for (first, second) in [(4, 16), (3, 16), (4, 15), (3, 15), (0, 0)] {
-                let question = Question::Weighted { terms: terms.to_vec(), k: 2, allowance: 9 };
-                let slices = Lent { first, second };
-                let right = if fault > 0 { Err(fault) } else { answer(&small, &question, slices) };
-                compare_raw(&bytes, Form::Checked, &question, slices, &right);
-                if fault == 0 {
-                    compare_raw(&bytes, Form::Opened, &question, slices, &right);
-                }
-                met.insert(right.err().unwrap_or(0));
-            }
+    for terms in choices {
+        let question = Question::Weighted { terms: terms.to_vec(), k: 2, allowance: 9 };
+        for (first, second) in [(4, 16), (3, 16), (4, 15), (3, 15), (0, 0)] {
+            compare_with_faults(&question, Lent { first, second }, &mut met);
         }
     }
     assert_met(&met, 0..=13);
@@ -197,8 +177,9 @@ fn slices_of_every_length() {
                 met.insert(right.as_ref().err().copied().unwrap_or(0));
                 for number in [0, 1, 16, 0x7FFF_FFFF, u32::MAX] {
                     let scratch = Scratch { first: vec![number; first], second: vec![number; second] };
-                    compare_in(&bytes, Form::Checked, &question, scratch.clone(), &right);
-                    compare_in(&bytes, Form::Opened, &question, scratch, &right);
+                    for form in FORMS {
+                        compare_in(&bytes, form, &question, scratch.clone(), &right);
+                    }
                 }
             }
         }

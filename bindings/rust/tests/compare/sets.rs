@@ -1,22 +1,17 @@
 //! Sets of documents that are counted as one: the change request's sentences, and sets that are short, long, whole nodes of the tree or spread
 //! over it.
 use crate::compare::{assert_met, compare, compare_raw, needed, Met};
-use crate::library::{archive, height, open, Library};
+use crate::faults::compare_with_faults;
+use crate::library::{archive, height, Library};
 use crate::questions::{answer, Lent, Question, ROOM};
 use crate::random::{self, Random};
-use crate::raw::Form;
-use crate::scores::{archives, library};
+use crate::raw::FORMS;
+use crate::scores::{library, small};
 use crate::sweep::with_archive;
 use crate::{quick, rounds};
 use masuvelior::{Archive, Refusal};
 
-const FORMS: [Form; 2] = [Form::Checked, Form::Opened];
 const NO_SLICES: Lent = Lent { first: 0, second: 0 };
-
-/// N 4; the entries are 3 1 0 3 2 1 3 0.
-fn small() -> Library {
-    library(4, &[&[3, 1, 0], &[], &[3, 2, 1, 3, 0]])
-}
 
 /// Every set of these numbers, which ascend.
 pub fn subsets(numbers: &[u32]) -> Vec<Vec<u32>> {
@@ -240,7 +235,6 @@ fn longer_by_far() {
 /// Every refusal, alone and with each set of others: faults of the archive, of the set, of a document and of the place.
 #[test]
 fn every_refusal_and_every_order() {
-    let small = open(&archives()[0].0).unwrap();
     let long: Vec<u32> = (0..65).collect();
     let mut turned = long.clone();
     turned.swap(0, 1);
@@ -263,16 +257,8 @@ fn every_refusal_and_every_order() {
         &[u32::MAX, 0],
     ];
     let mut met = Met::new();
-    for (bytes, fault) in archives() {
-        for (set, place) in sets.into_iter().flat_map(|set| [0, 8, 9, u32::MAX].map(|place| (set, place))) {
-            let question = Question::RankSet { set: set.to_vec(), place };
-            let right = if fault > 0 { Err(fault) } else { answer(&small, &question, NO_SLICES) };
-            compare_raw(&bytes, Form::Checked, &question, NO_SLICES, &right);
-            if fault == 0 {
-                compare_raw(&bytes, Form::Opened, &question, NO_SLICES, &right);
-            }
-            met.insert(right.err().unwrap_or(0));
-        }
+    for (set, place) in sets.into_iter().flat_map(|set| [0, 8, 9, u32::MAX].map(|place| (set, place))) {
+        compare_with_faults(&Question::RankSet { set: set.to_vec(), place }, NO_SLICES, &mut met);
     }
     assert_eq!(met, Met::from([0, 1, 2, 3, 4, 5, 6, 7, 8, 9, 11, 19]));
 }

@@ -83,6 +83,7 @@ fn questions_with_marks(terms: u32) -> Vec<Question> {
 /// Every question of some terms.
 fn of_terms(terms: &[u32], library: &Library, all: &mut Vec<Question>) {
     all.push(Question::Conjunction { terms: terms.to_vec() });
+    all.push(Question::RarestFirst { terms: terms.to_vec() });
     for k in [0, 1, 2, 4, library.documents, u32::MAX] {
         for allowance in [0, 1, 2, 3, 5, 9, u32::MAX] {
             all.push(Question::Weighted { terms: terms.to_vec(), k, allowance });

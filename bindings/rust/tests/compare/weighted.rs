@@ -1,4 +1,5 @@
-//! The model of the weighted search, after `docs/FORMAT.md`: weights by trying, scores by counting, and all nodes one after the other.
+//! The model of the weighted search, after `docs/FORMAT.md`: weights by trying, scores by counting, and all nodes one after the other. And
+//! the order of its terms, by taking the rarest away again and again.
 use crate::library::{height, Library};
 use crate::questions::{chosen, counts, part, Pairs, Span};
 
@@ -10,6 +11,20 @@ pub fn weight(documents: u32, df: u32) -> u32 {
     let fourth = |x: u32| u128::from(x).pow(4);
     let fits = |g: &u32| (1 << g) * fourth(df) <= fourth(documents);
     (0..64).filter(fits).max().unwrap()
+}
+
+/// The given terms, each once, the one with the fewest entries first, of those with as many the lower number; or the refusal.
+pub fn rarest_first(library: &Library, given: &[u32]) -> Result<Vec<u32>, u32> {
+    let mut left = Vec::new(); // with how many entries each has; ascending by number
+    for term in chosen(library, given)? {
+        left.push((term, part(library, Span::Terms(term, term))?.len()));
+    }
+    let mut order = Vec::new();
+    while let Some(fewest) = left.iter().map(|of| of.1).min() {
+        let rarest = left.iter().position(|of| of.1 == fewest).unwrap();
+        order.push(left.remove(rarest).0);
+    }
+    Ok(order)
 }
 
 /// Of each number below 2^h, its score under some terms, and how many entries it has there.
