@@ -1,5 +1,5 @@
 // The operations on an archive as C sees them: a slice is its first element and its length, and the levels of an opened archive are numbers.
-// ours.cpp, and peer.cpp with weighted.cpp, boolean.cpp and rank_set.cpp, have them under a prefix for each way that they are compiled.
+// ours.cpp, and peer.cpp with weighted.cpp, boolean.cpp, rank_set.cpp and rarest_first.cpp, have them under a prefix for each way that they are compiled.
 #pragma once
 #include <stddef.h>
 #include <stdint.h>
@@ -31,11 +31,14 @@ typedef size_t probing_fn(LEVELS, size_t documents, size_t a, size_t b, uint32_t
 typedef uint64_t weighted_fn(LEVELS, size_t documents, size_t terms, const uint32_t *chosen, uint32_t size, uint32_t k, uint32_t allowance, uint32_t *answers, size_t answers_len, uint32_t *work, size_t work_len);
 // A question with and, or, not of so many numbers, which has a reading; how many documents were written.
 typedef size_t boolean_fn(LEVELS, size_t documents, size_t terms, const uint16_t *question, size_t size, uint32_t *answers, size_t answers_len);
+// Of eight chosen numbers the first `size` are the terms: the different ones, that with the fewest entries first, of equal ones the lower. How many were
+// written into the front of eight.
+typedef size_t rarest_first_fn(LEVELS, size_t terms, const uint32_t *chosen, uint32_t size, uint32_t *order);
 
 // All of them, under the prefix that F puts before a name.
 #define JOIN_(p, f) p##_##f
 #define JOIN(p, f) JOIN_(p, f)
-#define DECLARE_OPERATIONS open_fn F(open); write_fn F(write); read_fn F(read); access_fn F(access); rank_fn F(rank); rank_set_fn F(rank_set); select_fn F(select); quantile_fn F(quantile); list_fn F(list); conjunction_fn F(conjunction); greedy_fn F(greedy); probing_fn F(probing); weighted_fn F(weighted); boolean_fn F(boolean);
+#define DECLARE_OPERATIONS open_fn F(open); write_fn F(write); read_fn F(read); access_fn F(access); rank_fn F(rank); rank_set_fn F(rank_set); select_fn F(select); quantile_fn F(quantile); list_fn F(list); conjunction_fn F(conjunction); greedy_fn F(greedy); probing_fn F(probing); weighted_fn F(weighted); boolean_fn F(boolean); rarest_first_fn F(rarest_first);
 
 struct Operations {
   open_fn *open;
@@ -52,4 +55,5 @@ struct Operations {
   probing_fn *probing;
   weighted_fn *weighted;
   boolean_fn *boolean;
+  rarest_first_fn *rarest_first;
 };

@@ -15,15 +15,15 @@ struct Library {
 struct Query {
   size_t a, b, x;        // a range or a place, and a document or a rank
   uint32_t k, allowance; // top-k, weighted too
-  uint32_t chosen[8];    // conjunction, weighted: the first `size` are the terms
+  uint32_t chosen[8];    // conjunction, weighted, rarest first: the first `size` are the terms
   uint32_t size;
   const uint16_t *question; // boolean: so many numbers as `size` says
   const uint32_t *set;      // rank set, rank each: so many documents, ascending, before the place a
 };
 
-enum Op { OPEN, WRITE, READ, ACCESS, RANK, RANK_SET, RANKS, SELECT, QUANTILE, LIST, CONJUNCTION, GREEDY, PROBING, WEIGHTED, BOOLEAN, OPS };
+enum Op { OPEN, WRITE, READ, ACCESS, RANK, RANK_SET, RANKS, SELECT, QUANTILE, LIST, CONJUNCTION, GREEDY, PROBING, WEIGHTED, BOOLEAN, RAREST_FIRST, OPS };
 
-// The low 32 bits of a result are compared: a number, or how many pairs of document and count (weighted: score) or how many documents (boolean) were written.
+// The low 32 bits of a result are compared: a number, or how many pairs of document and count (weighted: score), documents (boolean) or terms (rarest first) were written.
 typedef uint64_t op_fn(void *index, const Query &q, uint32_t *answers);
 
 struct Contender {

@@ -1,4 +1,4 @@
-// What select, the count of a set, the conjunction, the searches and questions with and, or, not answer by the definitions in docs/FORMAT.md: from the list alone, sharing nothing with a contender.
+// What select, the count of a set, the conjunction, the searches, questions with and, or, not and the order of terms answer by the definitions in docs/FORMAT.md: from the list alone, sharing nothing with a contender.
 #pragma once
 #include <algorithm>
 #include <iterator>
@@ -30,6 +30,13 @@ inline uint32_t count_of_set(const Numbers &list, const Documents &set, size_t p
 
 // What the terms of a question come to: a repeated term counts once.
 inline std::set<uint32_t> different(const uint32_t *given, size_t size) { return std::set<uint32_t>(given, given + size); }
+
+// The rarest first, by the terms' lengths. Those of the same length stay ascending.
+inline Numbers rarest_first_of(const Numbers &lengths, const std::set<uint32_t> &terms) {
+  Numbers order(terms.begin(), terms.end());
+  std::stable_sort(order.begin(), order.end(), [&](uint32_t s, uint32_t t) { return lengths[s] < lengths[t]; });
+  return order;
+}
 
 // The marks of a question with and, or, not.
 const uint16_t AND = 60000, OR = 60001, NOT = 60002, OPENS = 60003, CLOSES = 60004;

@@ -102,4 +102,10 @@ size_t F(boolean)(LEVELS_UNUSED, size_t, size_t, const uint16_t *question, size_
   answered(ASK(boolean)(bytes, len, question, size, answers, answers_len, &listed));
   return listed;
 }
+
+size_t F(rarest_first)(LEVELS_UNUSED, size_t, const u32 *chosen, u32 size, u32 *order) {
+  u32 different = 0;
+  answered(ASK(rarest_first)(bytes, len, chosen, size, order, &different));
+  return different;
+}
 }

@@ -19,8 +19,8 @@
 Contender scan_contender();
 extern "C" void sdsl_plain(Contender *), sdsl_popcnt(Contender *);
 
-#define PEER(p) extern "C" { open_fn p##_open; write_fn p##_write; read_fn p##_read; access_fn p##_access; rank_fn p##_rank; rank_set_fn p##_rank_set; select_fn p##_select; quantile_fn p##_quantile; list_fn p##_list; conjunction_fn p##_conjunction; greedy_fn p##_greedy; probing_fn p##_probing; weighted_fn p##_weighted; boolean_fn p##_boolean; } \
-  constexpr Operations p = {p##_open, p##_write, p##_read, p##_access, p##_rank, p##_rank_set, p##_select, p##_quantile, p##_list, p##_conjunction, p##_greedy, p##_probing, p##_weighted, p##_boolean};
+#define PEER(p) extern "C" { open_fn p##_open; write_fn p##_write; read_fn p##_read; access_fn p##_access; rank_fn p##_rank; rank_set_fn p##_rank_set; select_fn p##_select; quantile_fn p##_quantile; list_fn p##_list; conjunction_fn p##_conjunction; greedy_fn p##_greedy; probing_fn p##_probing; weighted_fn p##_weighted; boolean_fn p##_boolean; rarest_first_fn p##_rarest_first; } \
+  constexpr Operations p = {p##_open, p##_write, p##_read, p##_access, p##_rank, p##_rank_set, p##_select, p##_quantile, p##_list, p##_conjunction, p##_greedy, p##_probing, p##_weighted, p##_boolean, p##_rarest_first};
 
 PEER(tight_nopop)
 PEER(plain_nopop)
@@ -124,8 +124,9 @@ template <const Operations &F> struct Tree {
     Archive &x = *(Archive *)p;
     return F.boolean(AT(x), x.documents, x.terms, q.question, q.size, answers, x.documents);
   }
+  static uint64_t rarest_first(void *p, const Query &q, uint32_t *order) { Archive &x = *(Archive *)p; return F.rarest_first(AT(x), x.terms, q.chosen, q.size, order); }
   static Contender contender(const char *name) {
-    return {name, build, drop, bytes, {open, write, read, access, rank, rank_set, ranks, select, quantile, list, conjunction, greedy, probing, weighted, boolean}};
+    return {name, build, drop, bytes, {open, write, read, access, rank, rank_set, ranks, select, quantile, list, conjunction, greedy, probing, weighted, boolean, rarest_first}};
   }
 };
 
@@ -235,7 +236,7 @@ struct Data {
 
 // ---- verification
 
-const char *NAMES[OPS] = {"open", "write", "read", "access", "rank", "rank set", "rank each", "select", "quantile", "list", "conjunction", "greedy", "probing", "weighted", "boolean"};
+const char *NAMES[OPS] = {"open", "write", "read", "access", "rank", "rank set", "rank each", "select", "quantile", "list", "conjunction", "greedy", "probing", "weighted", "boolean", "rarest first"};
 size_t comparisons = 0;
 
 void expect(bool right, const Contender &c, const char *what) {
@@ -252,11 +253,12 @@ Sums sums_of(const Data &data, Op op, const Query &q) {
   return s;
 }
 
-bool takes_terms(Op op) { return op == CONJUNCTION || op == WEIGHTED; }
+bool adds_terms(Op op) { return op == CONJUNCTION || op == WEIGHTED; }
+bool takes_terms(Op op) { return adds_terms(op) || op == RAREST_FIRST; }
 bool takes_set(Op op) { return op == RANK_SET || op == RANKS; }
 
-// How many numbers are written for each that the result counts: a pair, a document, or none.
-size_t width(Op op) { return op == BOOLEAN ? 1 : op >= LIST ? 2 : 0; }
+// How many numbers are written for each that the result counts: a pair, a document or a term, or none.
+size_t width(Op op) { return op == BOOLEAN || op == RAREST_FIRST ? 1 : op >= LIST ? 2 : 0; }
 
 // The documents that match a question.
 Numbers matching_of(const Data &data, const Query &q) {
@@ -408,22 +410,24 @@ void verify_bounded(const std::vector<Contender> &all, const Data &data, Op op, 
 }
 
 void verify_query(const std::vector<Contender> &all, const Data &data, Op op, const Query &q, size_t turn) {
-  Numbers lent(2 * data.documents + 2, 0xa5a5a5a5), right = lent, got = lent;
+  Numbers lent(std::max<size_t>(2 * data.documents, 8) + 2, 0xa5a5a5a5), right = lent, got = lent;
   uint64_t expected = all[SCAN].ops[op](data.indexes[SCAN], q, right.data());
   for (size_t c = 1; c < all.size(); c++) {
     if (!all[c].ops[op]) continue;
     uint64_t r = all[c].ops[op](data.indexes[c], q, got.data());
     expect((uint32_t)r == (uint32_t)expected, all[c], NAMES[op]);
     if (width(op)) expect(std::equal(right.begin(), right.begin() + (long)(width(op) * (uint32_t)expected), got.begin()), all[c], NAMES[op]);
-    if (op == BOOLEAN) expect(got == right, all[c], "rest of the answer slice");
+    if (width(op) == 1) expect(got == right, all[c], "rest of the answer slice");
     got = lent;
   }
-  if (op == BOOLEAN) {
-    Numbers full = matching_of(data, q);
-    expect(expected == full.size() && std::equal(full.begin(), full.end(), right.begin()), all[SCAN], NAMES[op]);
+  if (width(op) == 1) {
+    Numbers full = op == BOOLEAN ? matching_of(data, q) : rarest_first_of(data.lengths, different(q.chosen, q.size));
+    expect(expected == full.size(), all[SCAN], NAMES[op]);
+    if (op == RAREST_FIRST) full.resize(8, 0);
+    expect(std::equal(full.begin(), full.end(), right.begin()), all[SCAN], NAMES[op]);
   }
   if (takes_set(op)) expect(expected == count_of_set(data.entries, Documents(q.set, q.set + q.size), q.a), all[SCAN], NAMES[op]);
-  if (takes_terms(op)) {
+  if (adds_terms(op)) {
     Sums sums = sums_of(data, op, q);
     Numbers full = op == WEIGHTED ? sums.list(q.k) : sums.common();
     expect(expected == full.size() / 2 && std::equal(full.begin(), full.end(), right.begin()), all[SCAN], NAMES[op]);
@@ -514,6 +518,20 @@ void verify_counts(const std::vector<Contender> &all, const Data &data) {
   }
 }
 
+// Terms of the small library, which have 3, 0 and 5 entries.
+void verify_orders(const std::vector<Contender> &all, const Data &data) {
+  const struct { Numbers terms, order; } cases[] = {
+    {{0}, {0}}, {{2, 0}, {0, 2}}, {{0, 1}, {1, 0}}, {{2, 0, 1}, {1, 0, 2}}, {{2, 2, 0, 2}, {0, 2}}, {{1, 2, 1, 0, 0, 2, 1, 0}, {1, 0, 2}}, {{2, 2, 2, 2, 2, 2, 2, 2}, {2}},
+  };
+  for (auto &one : cases) {
+    Query q = Query();
+    q.size = (uint32_t)one.terms.size();
+    std::copy(one.terms.begin(), one.terms.end(), q.chosen);
+    verify_query(all, data, RAREST_FIRST, q, 0);
+    expect(rarest_first_of(data.lengths, different(q.chosen, q.size)) == one.order, all[SCAN], "order");
+  }
+}
+
 // The small library of docs/FORMAT.md, byte by byte.
 void verify_small(const std::vector<Contender> &all) {
   const uint8_t bytes[74] = {1, 0, 0, 0, 8, 0, 0, 0, 4, 0, 0, 0, 3, 0, 0, 0, 40, 0, 0, 0, 24, 0, 0, 0, 64, 0, 0, 0, 8, 0, 0, 0, 72, 0, 0, 0, 2,
@@ -523,6 +541,7 @@ void verify_small(const std::vector<Contender> &all) {
     if (is_tree(all[c])) expect(((Archive *)data.indexes[c])->len == 74 && !memcmp(((Archive *)data.indexes[c])->bytes, bytes, 74), all[c], "small library");
   verify_readings(all, data);
   verify_counts(all, data);
+  verify_orders(all, data);
   for (size_t turn = 0; turn < 200; turn++)
     for (int op = ACCESS; op < OPS; op++) verify_op(all, data, (Op)op, turn);
   data.drop(all);
@@ -731,6 +750,20 @@ template <class Make> void add(Set &set, const std::vector<Contender> &all, cons
   set.cells.push_back(c);
 }
 
+// The order of two or eight different terms, each as likely, and of eight as typed by wet fingers. A batch has all questions, since
+// the processor learns the branches of fewer. The seed is put back, as for repeated terms.
+void add_orders(Set &set, const std::vector<Contender> &all, const char *filter, double seconds) {
+  uint64_t from = seed;
+  auto cell = [&](const char *of, auto make) {
+    seed = from;
+    add(set, all, filter, seconds, RAREST_FIRST, MIXED, 0, of, QUERIES, make);
+  };
+  cell(" of 2", [](const Data &d) { return different_query(d, 2); });
+  cell(" of 8", [](const Data &d) { return different_query(d, 8); });
+  cell(" of 8 repeated", [](const Data &d) { return typed_wet(different_query(d, 2 + below(2))); });
+  seed = from;
+}
+
 void add_cells(Set &set, const std::vector<Contender> &all, const char *filter, double seconds) {
   // Questions of mixed terms differ much in cost, and so do those of repeated terms and of sets: a batch has several.
   const size_t several = 16;
@@ -824,6 +857,7 @@ void add_cells(Set &set, const std::vector<Contender> &all, const char *filter, 
         boolean(range, " of " + std::to_string(size) + (with_not ? " with not" : ""), [=](const Data &d) { return boolean_query(d, size, with_not); });
   // All documents but one or two.
   boolean(MIXED, " not rare", [](const Data &d) { return ask({NOT, (uint16_t)(d.lengths.size() - 1 - below(256))}); });
+  add_orders(set, all, filter, seconds);
 }
 
 void print_set(const Set &set, const std::vector<Contender> &all) {

@@ -14,7 +14,7 @@ mkdir -p build
 (cd "$root" && rt staticlib masuvelior) >build/staticlib.log 2>&1 || { tail build/staticlib.log; exit 1; }
 objects=
 peer() { # NAME TIGHT FLAGS
-  for part in peer weighted boolean rank_set; do
+  for part in peer weighted boolean rank_set rarest_first; do
     $CXX $flags -DPEER="$1" -DTIGHT="$2" $3 -c $part.cpp -o "build/$1_$part.o"
     objects="$objects build/$1_$part.o"
   done
@@ -37,7 +37,7 @@ if [ -n "$BEFORE" ]; then
   objects="$objects build/before.o build/before.a"
   # The questions that it lacks are not asked of it.
   lacks=
-  for op in BOOLEAN RANK_SET; do
+  for op in BOOLEAN RANK_SET RAREST_FIRST; do
     grep -qi "^masuvelior_$op " build/before.names || lacks="$lacks$op,"
   done
   before="-DBEFORE -DBEFORE_LACKS=$lacks"

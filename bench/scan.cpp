@@ -217,8 +217,28 @@ uint64_t boolean(void *p, const Query &q, uint32_t *answers) {
   }
   return put_matching(question, bitmaps, x.documents, answers);
 }
+
+// The entries of each term; then the smallest that is left, again and again. A repeated term goes with its first. The rest of eight numbers is 0.
+uint64_t rarest_first(void *p, const Query &q, uint32_t *order) {
+  const uint32_t *starts = ((Scan *)p)->starts.data();
+  const uint64_t none = ~(uint64_t)0;
+  uint64_t keys[8], found = 0;
+  std::fill(order, order + 8, 0);
+  for (size_t i = 0; i < q.size; i++) {
+    uint32_t t = q.chosen[i];
+    keys[i] = (uint64_t)(starts[t + 1] - starts[t]) << 32 | t;
+  }
+  for (uint64_t from = 0;;) {
+    uint64_t least = none;
+    for (size_t i = 0; i < q.size; i++)
+      if (from <= keys[i] && keys[i] < least) least = keys[i];
+    if (least == none) return found;
+    order[found++] = (uint32_t)least;
+    from = least + 1;
+  }
+}
 }
 
 Contender scan_contender() {
-  return {"scan", build, drop, bytes, {nullptr, nullptr, nullptr, access, rank, rank_set, ranks, select, quantile, list, conjunction, top_k, top_k, weighted, boolean}};
+  return {"scan", build, drop, bytes, {nullptr, nullptr, nullptr, access, rank, rank_set, ranks, select, quantile, list, conjunction, top_k, top_k, weighted, boolean, rarest_first}};
 }

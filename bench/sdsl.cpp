@@ -169,7 +169,7 @@ template <class Tree> struct Peer {
     return put_matching(question, bitmaps, x.documents, answers);
   }
   static Contender contender(const char *name) {
-    return {name, build, drop, bytes, {nullptr, nullptr, nullptr, access, rank, nullptr, ranks, select, quantile, list, conjunction, greedy, probing, nullptr, boolean}};
+    return {name, build, drop, bytes, {nullptr, nullptr, nullptr, access, rank, nullptr, ranks, select, quantile, list, conjunction, greedy, probing, nullptr, boolean, nullptr}};
   }
 };
 

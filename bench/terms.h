@@ -1,4 +1,5 @@
-// The terms of a question as every contender but ours takes them, in front of its search: a repeated term counts once.
+// The terms of a question as contenders other than ours take them, in front of a search: a repeated term counts once. rarest.h has those of the peers'
+// weighted top-k.
 #pragma once
 #include <stdint.h>
 

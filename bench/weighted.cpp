@@ -1,7 +1,8 @@
-// Weighted top-k of the peer: documents with an entry under some of the terms, by the sum of weight * count, each different term once.
+// Weighted top-k of the peer: documents with an entry under some of the terms, by the sum of weight * count, each different term once, the
+// rarest first.
 // A node waits as its score, start and depth alone. Where the terms' ranges lie in it is found again from a path of frames, both halves of every
 // level down to the halves of the node opened last: only what lies below the deepest node in common is walked.
-#include "peer.h"
+#include "rarest.h"
 
 namespace {
 // A node's bounds in its level, and the ranges and weights of those terms that have an entry in it.
@@ -52,13 +53,13 @@ INLINE void add(Frame &f, u32 lo, u32 hi, u32 weight) {
   f.size += lo != hi;
 }
 
-INLINE void put_root(const Levels &t, u32 documents, const u32 *chosen, u32 size, Frame &root) {
-  u32 terms[8];
-  size = each_once(chosen, size, terms);
+INLINE void put_root(const Levels &t, u32 documents, u32 terms, const u32 *chosen, u32 size, Frame &root) {
+  u32 order[8];
+  size = put_rarest_first(t, terms, chosen, size, order);
   root.start = root.size = 0;
   root.end = t.n;
   for (u32 i = 0; i < size; i++) {
-    u32 lo = number(t.bytes + 40 + 8 * terms[i]), hi = lo + number(t.bytes + 44 + 8 * terms[i]);
+    u32 lo = number(t.bytes + 40 + 8 * order[i]), hi = lo + number(t.bytes + 44 + 8 * order[i]);
     add(root, lo, hi, weight_of(documents, distinct(t, lo, hi)));
   }
 }
@@ -103,14 +104,14 @@ extern "C" {
 DECLARE_OPERATIONS
 
 // As greedy: the best half of an opened node is kept in hand, and only changes places with the first of the queue where that is better.
-u64 F(weighted)(LEVELS, size_t documents, size_t, const u32 *chosen, u32 size, u32 k, u32 allowance, u32 *answers, size_t, u32 *work, size_t) {
+u64 F(weighted)(LEVELS, size_t documents, size_t terms, const u32 *chosen, u32 size, u32 k, u32 allowance, u32 *answers, size_t, u32 *work, size_t) {
   Levels t = TREE;
   Path path;
   Waiting *queue = (Waiting *)work;
   u32 held = 0, openings = 0;
   u64 listed = 0, spent = 0;
   path.start = 0;
-  put_root(t, (u32)documents, chosen, size, path.frames[0][0]);
+  put_root(t, (u32)documents, (u32)terms, chosen, size, path.frames[0][0]);
   Waiting best = waiting(path.frames[0][0], 0, 0);
   while (path.frames[0][0].size && k) {
     u32 start = 65535 - ((u32)(best.key >> 16) & 65535), j = (u32)best.key & 65535, half = 1u << t.height >> (j + 1);
