@@ -14,7 +14,7 @@ use Rattle.model.specs.Lists.{part, overwrite}
 use Rattle.model.specs.Outcome.{Outcome, answered, refuse, andThen}
 use Rattle.model.specs.Format.{Library}
 use Rattle.model.specs.Distinct.{distinct}
-use Rattle.model.specs.Queries.{Range, ofEntries, ofTerms, Bounds, boundsOf, termStart, quantile, Pair, flat, PairsResult, pairsInto, accessResult, rankResult, selectResult, quantileResult, listResult, conjunctionResult}
+use Rattle.model.specs.Queries.{Range, ofEntries, ofTerms, Bounds, boundsOf, termStart, quantile, Pair, flat, PairsResult, pairsInto, Placed, firstPlace, flatPlaced, placedInto, accessResult, rankResult, selectResult, quantileResult, listResult, conjunctionResult}
 use Rattle.model.specs.Papers.{listed, intersection}
 use Rattle.model.proofs.Lists.{length-part}
 use Rattle.model.proofs.Format.Valid.{any-within}
@@ -37,6 +37,17 @@ number-is (Refused number) n e = let z : _≡_ {A = ℕ} 0 1 = cc in absurd (ome
 pairs-are : (ps : List Pair) (r : Answer) (before after : List ℕ) → pairsOf r after ≡ pairsInto before (answered ps) → Pairs ps r before after
 pairs-are ps r before after e = record {
   how-many = number-is r (length ps) (ap (λ (p : PairsResult). p .outcome) e);
+  stored = ap (λ (p : PairsResult). p .answers) e;
+}
+
+-- the same with their places, three numbers a document (M-108)
+pub record PlacedPairs (ps : Placed) (r : Answer) (before after : List ℕ) : Type 0 where
+  pub how-many : r ≡ Number (length (ps .pairs))
+  pub stored : after ≡ overwrite (flatPlaced (ps .place) (ps .pairs)) before
+
+placed-are : (ps : Placed) (r : Answer) (before after : List ℕ) → pairsOf r after ≡ placedInto before (answered ps) → PlacedPairs ps r before after
+placed-are ps r before after e = record {
+  how-many = number-is r (length (ps .pairs)) (ap (λ (p : PairsResult). p .outcome) e);
   stored = ap (λ (p : PairsResult). p .answers) e;
 }
 
@@ -107,24 +118,26 @@ module _ (bytes : List ℕ) (lib : Library) (over : AnswersOver bytes lib) where
   rank-in-terms f l t r promise order known i =
       rank-in (ofTerms f l) (record { from = termStart lib f; to = termStart lib (suc l) }) (terms-inside lib f l order known) t r promise i
 
-  -- list and list_terms: ".. listings .."
+  -- list and list_terms: ".. listings ..", with the first places (M-108; `first-places` of `AnswersOver` says that each is a select)
+  abbrev listedIn : Bounds → Placed
+  listedIn z = record { pairs = listed xs (z .from) (z .to); place = firstPlace (z .from) (part (z .from) (z .to) xs) }
+
   listing-in : (range : Range) (z : Bounds) → boundsOf lib range ≡ answered z → (r : Answer) (before after : List ℕ)
-      → pairsOf r after ≡ listResult bytes range before → 2 * lib .documents ≤ length before → Pairs (listed xs (z .from) (z .to)) r before after
+      → pairsOf r after ≡ listResult bytes range before → 3 * lib .documents ≤ length before → PlacedPairs (listedIn z) r before after
   listing-in range z inside r before after promise room =
-      let ps : List Pair = listed xs (z .from) (z .to) in
-      pairs-are ps r before after
+      placed-are (listedIn z) r before after
       (promise ∙ over .listings range before
-      ∙ ap (λ (o : Outcome Bounds).
-      pairsInto before (andThen o (λ y. refuse 12 (ltb (length before) (2 * lib .documents)) (answered (listed xs (y .from) (y .to)))))) inside
-      ∙ ap (λ (c : Bool). pairsInto before (refuse 12 c (answered ps))) (le-ltb (length before) (2 * lib .documents) room))
+      ∙ ap (λ (o : Outcome Bounds). placedInto before (andThen o (λ y. refuse 12 (ltb (length before) (3 * lib .documents)) (answered (listedIn y))))) inside
+      ∙ ap (λ (c : Bool). placedInto before (refuse 12 c (answered (listedIn z)))) (le-ltb (length before) (3 * lib .documents) room))
 
   pub listing-of-entries : (a b : ℕ) (r : Answer) (before after : List ℕ) → pairsOf r after ≡ listResult bytes (ofEntries a b) before
-      → a ≤ b → b ≤ length xs → 2 * lib .documents ≤ length before → Pairs (listed xs a b) r before after
+      → a ≤ b → b ≤ length xs → 3 * lib .documents ≤ length before → PlacedPairs (listedIn (record { from = a; to = b })) r before after
   listing-of-entries a b r before after promise order inside room =
       listing-in (ofEntries a b) (record { from = a; to = b }) (entries-inside lib a b order inside) r before after promise room
 
   pub listing-of-terms : (f l : ℕ) (r : Answer) (before after : List ℕ) → pairsOf r after ≡ listResult bytes (ofTerms f l) before
-      → f ≤ l → l < length (lib .lengths) → 2 * lib .documents ≤ length before → Pairs (listed xs (termStart lib f) (termStart lib (suc l))) r before after
+      → f ≤ l → l < length (lib .lengths) → 3 * lib .documents ≤ length before
+      → PlacedPairs (listedIn (record { from = termStart lib f; to = termStart lib (suc l) })) r before after
   listing-of-terms f l r before after promise order known room =
       listing-in (ofTerms f l) (record { from = termStart lib f; to = termStart lib (suc l) }) (terms-inside lib f l order known) r before after promise room
 

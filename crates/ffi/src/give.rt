@@ -112,7 +112,7 @@ pub fn probed(answer: Probed, out: &mut u32) -> u32
     ensures { λ r. ⌜ coded r (one (now (out .exit))) ≡ given one (probedOf answer) (one (now (out .entry))) ⌝ }
 {
     match answer {
-        Probed::Pairs(listed) => {
+        Probed::Listed(listed) => {
             *out = listed;
             0
         }

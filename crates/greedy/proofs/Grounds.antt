@@ -5,6 +5,7 @@ use mathlib.Core.Path.{_≡_, sym, ap}
 use mathlib.Core.List.{List}
 use lib.ListN.{length}
 use Rattle.model.specs.Lists.{Within}
+use Rattle.model.specs.Queries.{flat}
 use Rattle.model.specs.TopK.{countIn, foundOf}
 use Rattle.model.specs.Search.{Waiting, answerOf, occupied, movesFrom}
 use Rattle.model.proofs.Lists.{within-part, within-le}
@@ -45,5 +46,5 @@ module _ (bytes : List ℕ) (s : Search) (ok : Searchable bytes s) where
   -- the moves on it are those of the search
   pub found-is : (k allowance : ℕ) → foundBy (groundOf bytes s) k allowance ≡ foundIn bytes s k allowance
   found-is k allowance =
-      ap (λ (w : List Waiting). foundOf (s .documents) (answerOf (movesFrom (countIn (rangeOf bytes s)) (occupied (rangeOf bytes s)) (k + allowance) k allowance w)))
+      ap (λ (w : List Waiting). foundOf flat (s .documents) (answerOf (movesFrom (countIn (rangeOf bytes s)) (occupied (rangeOf bytes s)) (k + allowance) k allowance w)))
       (sym (begin-root (s .levels .height) (rangeOf bytes s) (within-le (s .documents) (2 ^ s .levels .height) documents-fit (rangeOf bytes s) range-within)))

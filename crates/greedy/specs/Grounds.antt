@@ -1,6 +1,7 @@
 -- The ground of the greedy search, and what it is to find. Document 01, "The questions", the shortlist.
 use Prim.Native.Nat.{ℕ, _-_}
 use mathlib.Core.List.{List}
+use Rattle.model.specs.Queries.{flat}
 use Rattle.model.specs.TopK.{Node, node, countIn, Ended, Found, foundOf}
 use Rattle.model.specs.Search.{answerOf, occupied, searchMoves}
 use Rattle.wavelet.specs.declared.Span.{Span}
@@ -26,6 +27,6 @@ groundOf bytes s = record {
   fourth = λ n. rangePlaces (spanAt bytes s n);
 }
 
--- the answer that is read off the moves. It is the one of `greedyResult` (`model/proofs/Greedy/Theorem`)
+-- the pairs and the answer that are read off the moves. They are those of `greedyResult` (`model/proofs/Greedy/Theorem`)
 abbrev pub foundIn : List ℕ → Search → ℕ → ℕ → Found Ended
-foundIn bytes s k allowance = foundOf (s .documents) (answerOf (searchMoves (s .levels .height) (rangeOf bytes s) k allowance))
+foundIn bytes s k allowance = foundOf flat (s .documents) (answerOf (searchMoves (s .levels .height) (rangeOf bytes s) k allowance))

@@ -3,21 +3,21 @@ use Prim.Native.Nat.{ℕ, zero, suc, _+_, _-_, _*_}
 use mathlib.Core.List.{List, [], _∷_, _++_}
 use lib.ListN.{length}
 use lib.Dec.{ltb}
-use Rattle.model.specs.Lists.{keep}
+use Rattle.model.specs.Lists.{keep, part}
 use Rattle.model.specs.Outcome.{Outcome, answered, refuse, andThen}
 use Rattle.model.specs.Format.{Library}
-use Rattle.model.specs.Queries.{Pair, present, Bounds, PairsResult, pairsInto, listing}
+use Rattle.model.specs.Queries.{Pair, present, Bounds, PairsResult, placedListing, placedInto}
 use Rattle.wavelet.specs.declared.Levels.{Levels}
 use Rattle.wavelet.specs.declared.Span.{Span}
 use Rattle.wavelet.specs.Levels.{levelOf}
 use Rattle.wavelet.specs.Spans.{halvesOf}
-use Rattle.archive_ranges.specs.Ranges.{between}
 
 -- the result of model is this of the range as given
 abbrev pub listOf : Library → Outcome Bounds → List ℕ → PairsResult
 listOf lib ends answers =
-    pairsInto answers
-    (andThen (between lib ends) (λ xs. refuse 12 (ltb (length answers) (2 * lib .documents)) (answered (listing (lib .documents) xs))))
+    placedInto answers
+    (andThen ends
+    (λ r. refuse 12 (ltb (length answers) (3 * lib .documents)) (answered (placedListing (lib .documents) (r .from) (part (r .from) (r .to) (lib .entries))))))
 
 -- the documents below the node q of level j with the range's places in it, m rows above the leaves: of the zero half, then of the one half
 abbrev pub pairsFrom : (ℕ → List ℕ) → ℕ → ℕ → ℕ → Span → List Pair

@@ -1,6 +1,8 @@
 // Listing: the documents of a range with their counts. A name that ends in `_opened` is the question of an archive that was opened before; one that
 // ends in `_in` is that without the refusals.
 mod lists;
+mod pass;
+mod places;
 
 pub use lists::list;
 pub use lists::list_in;

@@ -1,4 +1,6 @@
-// Listing a range: every document in it once, ascending, with its count.
+// Listing a range: every document in it once, ascending, with its count and its first place.
+use crate::pass::note_end;
+use crate::places::put_places;
 use answers::Answer;
 use answers::put_pair;
 use archive::Layout;
@@ -15,18 +17,19 @@ ghost use Prim.Native.Nat.{_+_, _*_, _^_, _≤_, _<_};
 ghost use lib.ListN.{length};
 ghost use Rattle.model.specs.Lists.{part};
 ghost use Rattle.model.specs.Opening.{contents};
-ghost use Rattle.model.specs.Queries.{listing, listResult, ofEntries, ofTerms};
+ghost use Rattle.model.specs.Queries.{listing, placedListing, listResult, ofEntries, ofTerms};
 ghost use Rattle.wavelet.specs.Levels.{Stored, entriesIn};
 ghost use Rattle.wavelet.specs.Spans.{span, Ordered};
 ghost use Rattle.archive.specs.Layout.{Opened};
 ghost use Rattle.answers.specs.Answers.{pairsOf};
 ghost use Rattle.archive_ranges.specs.Ranges.{boundsIn, Inside};
-ghost use Rattle.answers.specs.Written.{Written, Lists};
+ghost use Rattle.answers.specs.Written.{Written, Lists, ListsPlaced};
 ghost use Rattle.listing.specs.Listing.{listOf, pairsUnder};
+ghost use Rattle.listing.specs.Places.{notedUnder, Cursors};
 
 // The documents of the range lo to hi of the node q of level j, which spans start to end, as pairs from pair number `at` on.
 // The zero half is tried, then the one half; an empty one is left at once. Rows that remain fall at each call. The places pass as numbers: a struct would be
-// copied on the way.
+// copied on the way. The cursors of the nodes with entries of the range begin at its end.
 fn list_node(
     bytes: &[u8],
     t: Levels,
@@ -38,11 +41,13 @@ fn list_node(
     end: usize,
     at: usize,
     answers: &mut [u32],
+    cursors: &mut [u16],
 ) -> usize
     requires { ⌜ Stored (now bytes) t ⌝ }
     requires { ⌜ (j ≤ t .height) × (q < 2 ^ j) × Ordered (t .entries) (span start lo hi end)
-        × (2 * (at + length (pairsUnder (now bytes) t j q (span start lo hi end))) ≤ length (now answers)) ⌝ }
+        × (2 * (at + length (pairsUnder (now bytes) t j q (span start lo hi end))) ≤ length (now answers)) × (2 ^ t .height ≤ length (now cursors)) ⌝ }
     ensures { λ r. ⌜ Written (pairsUnder (now (bytes .entry)) t j q (span start lo hi end)) at (now (answers .entry)) (now (answers .exit)) r ⌝ }
+    ensures { λ r. ⌜ now (cursors .exit) ≡ notedUnder (now (bytes .entry)) t j q (span start lo hi end) (now (cursors .entry)) ⌝ }
 {
     if lo == hi {
         return at;
@@ -51,6 +56,7 @@ fn list_node(
         put_pair(answers, at, q, hi - lo);
         return at + 1;
     }
+    note_end(cursors, j, q, hi);
     let two = halve(bytes, t, j, Span { start, lo, hi, end });
     let zero = two.zero;
     let one = two.one;
@@ -65,6 +71,7 @@ fn list_node(
         zero.end,
         at,
         answers,
+        cursors,
     );
     if one.lo == one.hi {
         return middle;
@@ -80,25 +87,39 @@ fn list_node(
         one.end,
         middle,
         answers,
+        cursors,
     )
 }
 
-// The documents of the entries a up to but without b, as pairs in the front of the answers; how many.
-fn list_range(bytes: &[u8], t: Levels, a: usize, b: usize, answers: &mut [u32]) -> usize
+// The documents of the entries a up to but without b, as pairs in the front of the answers, and the cursors of their nodes; how many.
+fn list_range(
+    bytes: &[u8],
+    t: Levels,
+    a: usize,
+    b: usize,
+    answers: &mut [u32],
+    cursors: &mut [u16],
+) -> usize
     requires { ⌜ Stored (now bytes) t ⌝ }
-    requires { ⌜ (a ≤ b) × (b ≤ t .entries) × (2 * length (listing (2 ^ t .height) (part a b (entriesIn (now bytes) t))) ≤ length (now answers)) ⌝ }
+    requires { ⌜ (a ≤ b) × (b ≤ t .entries) × (2 * length (listing (2 ^ t .height) (part a b (entriesIn (now bytes) t))) ≤ length (now answers))
+        × (2 ^ t .height ≤ length (now cursors)) ⌝ }
     ensures { λ r. ⌜ Lists (listing (2 ^ t .height) (part a b (entriesIn (now (bytes .entry)) t))) r (now (answers .entry)) (now (answers .exit)) ⌝ }
+    ensures { λ r. ⌜ Cursors (t .height) (entriesIn (now (bytes .entry)) t) a b b (now (cursors .exit)) ⌝ }
 {
-    list_node(bytes, t, 0, 0, 0, a, b, t.entries, 0, answers)
+    list_node(bytes, t, 0, 0, 0, a, b, t.entries, 0, answers, cursors)
 }
 
-// The documents of a range of an opened archive: none of its numbers from N up to 2 ^ h occurs.
+// The documents of a range of an opened archive, with their first places: none of its numbers from N up to 2 ^ h occurs.
 pub fn list_in(archive: &[u8], l: Layout, a: usize, b: usize, answers: &mut [u32]) -> usize
     requires { ⌜ Opened (now archive) l ⌝ }
-    requires { ⌜ (a ≤ b) × (b ≤ l .levels .entries) × (2 * l .documents ≤ length (now answers)) ⌝ }
-    ensures { λ r. ⌜ Lists (listing (l .documents) (part a b (contents (now (archive .entry)) .entries))) r (now (answers .entry)) (now (answers .exit)) ⌝ }
+    requires { ⌜ (a ≤ b) × (b ≤ l .levels .entries) × (3 * l .documents ≤ length (now answers)) ⌝ }
+    ensures { λ r. ⌜ ListsPlaced (placedListing (l .documents) a (part a b (contents (now (archive .entry)) .entries))) r (now (answers .entry)) (now (answers .exit)) ⌝ }
 {
-    list_range(archive, l.levels, a, b, answers)
+    let t = l.levels;
+    let mut cursors = [0u16; 4096];
+    let n = list_range(archive, t, a, b, answers, &mut cursors);
+    put_places(archive, t, a, b, n, &mut cursors, answers);
+    n
 }
 
 // The listing of a range that is refused or inside the entries.
@@ -109,7 +130,7 @@ fn list_of(archive: &[u8], l: Layout, range: Range, answers: &mut [u32]) -> Answ
 {
     match range {
         Range::Entries { from, to } => {
-            if answers.len() < 2 * l.documents {
+            if answers.len() < 3 * l.documents {
                 Answer::Refused(12)
             } else {
                 Answer::Number(list_in(archive, l, from as usize, to as usize, answers) as u32)

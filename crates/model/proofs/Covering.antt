@@ -14,7 +14,7 @@ use borrow.Author.Tests.{leb-false, leb-true, le-leb, lt-leb}
 use Rattle.bits.proofs.Tests.{look, le-or-lt}
 use Rattle.model.specs.Lists.{overwrite}
 use Rattle.model.specs.Outcome.{answered}
-use Rattle.model.specs.Queries.{Pair, flat}
+use Rattle.model.specs.Queries.{Pair}
 use Rattle.model.specs.TopK.{coveredBy, answerBy, Answer, done, spent, Ended, doneWith, spentWith, endedOf, pairsOf, foundOf, foundInto, SearchResult}
 use Rattle.model.specs.Demand3.{isDone, figure}
 use Rattle.model.proofs.Greedy.Answers.{figureOf}
@@ -73,9 +73,9 @@ figure-ended : (a : Answer) → figure (answered (endedOf a)) ≡ figureOf a
 figure-ended (done ps openings) = refl
 figure-ended (spent ps allowance) = refl
 
--- of a library with N documents, where the slices `out` and `work` were lent
-module _ (need : List Pair → ℕ) (none : need [] ≡ 0) (allowance : ℕ) (full : List Pair) (N : ℕ) (out work : List ℕ)
-    (r : SearchResult Ended) (promise : r ≡ foundInto out work (answered (foundOf N (answerBy need allowance full)))) where
+-- of a library with N documents, where the slices `out` and `work` were lent, however its pairs are written
+module _ (write : List Pair → List ℕ) (need : List Pair → ℕ) (none : need [] ≡ 0) (allowance : ℕ) (full : List Pair) (N : ℕ) (out work : List ℕ)
+    (r : SearchResult Ended) (promise : r ≡ foundInto out work (answered (foundOf write N (answerBy need allowance full)))) where
   abbrev answer : Answer
   answer = answerBy need allowance full
 
@@ -89,10 +89,10 @@ module _ (need : List Pair → ℕ) (none : need [] ≡ 0) (allowance : ℕ) (fu
   outcome = ap (λ (y : SearchResult Ended). y .outcome) promise
 
   -- the outcome and the answer slice, by the answer
-  left : (a : Answer) → answer ≡ a → (r .outcome ≡ answered (endedOf a)) × (r .answers ≡ overwrite (flat (pairsOf a)) out)
+  left : (a : Answer) → answer ≡ a → (r .outcome ≡ answered (endedOf a)) × (r .answers ≡ overwrite (write (pairsOf a)) out)
   left a e = (
     outcome ∙ ap (λ (b : Answer). answered (endedOf b)) e,
-    ap (λ (y : SearchResult Ended). y .answers) promise ∙ ap (λ (b : Answer). overwrite (flat (pairsOf b)) out) e,
+    ap (λ (y : SearchResult Ended). y .answers) promise ∙ ap (λ (b : Answer). overwrite (write (pairsOf b)) out) e,
   )
 
   -- 'done' exactly when the allowance covers the need of the full list
@@ -104,16 +104,16 @@ module _ (need : List Pair → ℕ) (none : need [] ≡ 0) (allowance : ℕ) (fu
       go false = refl
 
   -- with the full list and its need
-  pub left-done : need full ≤ allowance → (r .outcome ≡ answered (doneWith (length full) (need full))) × (r .answers ≡ overwrite (flat full) out)
+  pub left-done : need full ≤ allowance → (r .outcome ≡ answered (doneWith (length full) (need full))) × (r .answers ≡ overwrite (write full) out)
   left-done l = left (done full (need full)) (rw (le-leb (need full) allowance l))
 
   -- otherwise 'spent' with the allowance and the longest front part whose need it covers
   pub left-spent : allowance < need full
-      → (r .outcome ≡ answered (spentWith (L .size) allowance)) × (r .answers ≡ overwrite (flat (take (L .size) full)) out)
+      → (r .outcome ≡ answered (spentWith (L .size) allowance)) × (r .answers ≡ overwrite (write (take (L .size) full)) out)
   left-spent l =
       let (o, a) = left (spent front allowance) (rw (lt-leb (need full) allowance l)) in
       let size : length front ≡ L .size = ap length (L .is) ∙ length-take-le (L .size) full (L .within) in
-      (o ∙ ap (λ (n : ℕ). answered (spentWith n allowance)) size, a ∙ ap (λ (ps : List Pair). overwrite (flat ps) out) (L .is))
+      (o ∙ ap (λ (n : ℕ). answered (spentWith n allowance)) size, a ∙ ap (λ (ps : List Pair). overwrite (write ps) out) (L .is))
 
   -- the number, the openings or the allowance, is the answer's
   pub left-figure : figure (r .outcome) ≡ figureOf answer

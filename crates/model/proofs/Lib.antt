@@ -12,6 +12,7 @@ pub mod Rate
 pub mod Priority
 pub mod Ranking
 pub mod Pairs
+pub mod FirstPlaces
 pub mod Listed
 pub mod Greedy
 pub mod FullList

@@ -16,15 +16,16 @@ use Rattle.model.specs.Rows.{height}
 use Rattle.model.specs.Format.{Library, Sizes, archiveOf}
 use Rattle.model.specs.Opening.{contents, opening, opened}
 use Rattle.model.specs.Queries as queries
-use Rattle.model.specs.Queries.{Range, ofEntries, ofTerms, Bounds, boundsOf, inRange, termStart, quantile, Pair, pairsInto}
+use Rattle.model.specs.Queries.{Range, ofEntries, ofTerms, Bounds, boundsOf, inRange, termStart, quantile, Pair, pairsInto, firstPlace, placedListing, placedInto}
 use Rattle.model.specs.Papers.{listed, intersection}
 use Rattle.model.specs.Demand2.{AnswersOver}
-use Rattle.model.specs.TopK.{Found, foundInto, searchResult, topK, endedOf, pairsOf, fullList}
+use Rattle.model.specs.TopK.{Found, foundInto, foundOf, withPlaces, searchResult, topK, fullList}
 use Rattle.model.proofs.Format.Valid.{Valid, valid-archive, refuse-answered}
 use Rattle.model.proofs.Format.WriteBack as read
 use Rattle.model.proofs.Format.Theorem.{read-written}
 use Rattle.model.proofs.Sums.{sum-take-mono, sum-take-le}
 use Rattle.model.proofs.Papers.{listing-listed, conjunction-intersection}
+use Rattle.model.proofs.FirstPlaces.{first-place-select}
 
 -- ---- a library that may be written
 
@@ -49,16 +50,21 @@ module _ (lib : Library) (v : Valid lib) where
 
   -- the listing of a range
   listing-over : (range : Range) (c : Bool) (answers : List ℕ)
-      → pairsInto answers (andThen (inRange lib range) (λ xs. refuse 12 c (answered (queries.listing (lib .documents) xs))))
-      ≡ pairsInto answers (andThen (boundsOf lib range) (λ r. refuse 12 c (answered (listed (lib .entries) (r .from) (r .to)))))
+      → placedInto answers
+      (andThen (boundsOf lib range) (λ r. refuse 12 c (answered (placedListing (lib .documents) (r .from) (part (r .from) (r .to) (lib .entries))))))
+      ≡ placedInto answers
+      (andThen (boundsOf lib range)
+      (λ r. refuse 12 c (answered (record { pairs = listed (lib .entries) (r .from) (r .to); place = firstPlace (r .from) (part (r .from) (r .to) (lib .entries)) }))))
   listing-over range c answers = go (boundsOf lib range) refl
     where
       go : (o : Outcome Bounds) → boundsOf lib range ≡ o
-          → pairsInto answers (andThen (andThen o (λ r. answered (part (r .from) (r .to) (lib .entries)))) (λ xs. refuse 12 c (answered (queries.listing (lib .documents) xs))))
-          ≡ pairsInto answers (andThen o (λ r. refuse 12 c (answered (listed (lib .entries) (r .from) (r .to)))))
+          → placedInto answers (andThen o (λ r. refuse 12 c (answered (placedListing (lib .documents) (r .from) (part (r .from) (r .to) (lib .entries))))))
+          ≡ placedInto answers
+          (andThen o
+          (λ r. refuse 12 c (answered (record { pairs = listed (lib .entries) (r .from) (r .to); place = firstPlace (r .from) (part (r .from) (r .to) (lib .entries)) }))))
       go (answered r) e =
           let (order, inside) = range-inside range r e in
-          ap (λ (ps : List Pair). pairsInto answers (refuse 12 c (answered ps)))
+          ap (λ (ps : List Pair). placedInto answers (refuse 12 c (answered (record { pairs = ps; place = firstPlace (r .from) (part (r .from) (r .to) (lib .entries)) }))))
           (listing-listed (lib .documents) (r .from) (r .to) (lib .entries) order inside (v .within))
       go (refused number) e = refl
 
@@ -77,23 +83,23 @@ module _ (lib : Library) (v : Valid lib) where
     over : {A : Type 0} (f : Outcome Library → A) → f (opened bytes) ≡ f (answered lib)
     over f = ap f holds
 
-    search-over : {A : Type 0} (range : Range) (k : ℕ) (answers work : List ℕ) (search : ℕ → List ℕ → Found A)
+    search-over : {A : Type 0} (range : Range) (k : ℕ) (answers work : List ℕ) (search : ℕ → ℕ → List ℕ → Found A)
         → searchResult bytes range k answers work search
         ≡ foundInto answers work
-        (andThen (inRange lib range)
-        (λ xs.
-        refuse 12 (ltb (length answers) (2 * min k (lib .documents)))
-        (refuse 13 (ltb (length work) (4 * lib .documents)) (answered (search (lib .documents) xs)))))
+        (andThen (boundsOf lib range)
+        (λ r.
+        refuse 12 (ltb (length answers) (3 * min k (lib .documents)))
+        (refuse 13 (ltb (length work) (4 * lib .documents)) (answered (search (lib .documents) (r .from) (part (r .from) (r .to) (lib .entries)))))))
     search-over range k answers work search =
         over
         (λ o.
         foundInto answers work
         (andThen o
         (λ y.
-        andThen (inRange y range)
-        (λ xs.
-        refuse 12 (ltb (length answers) (2 * min k (y .documents)))
-        (refuse 13 (ltb (length work) (4 * y .documents)) (answered (search (y .documents) xs)))))))
+        andThen (boundsOf y range)
+        (λ r.
+        refuse 12 (ltb (length answers) (3 * min k (y .documents)))
+        (refuse 13 (ltb (length work) (4 * y .documents)) (answered (search (y .documents) (r .from) (part (r .from) (r .to) (y .entries)))))))))
 
     pub answers-over : AnswersOver bytes lib
     answers-over = record {
@@ -106,10 +112,15 @@ module _ (lib : Library) (v : Valid lib) where
       listings = λ range answers.
           over
           (λ o.
-          pairsInto answers
+          placedInto answers
           (andThen o
-          (λ y. andThen (inRange y range) (λ xs. refuse 12 (ltb (length answers) (2 * y .documents)) (answered (queries.listing (y .documents) xs))))))
-          ∙ listing-over range (ltb (length answers) (2 * lib .documents)) answers;
+          (λ y.
+          andThen (boundsOf y range)
+          (λ r. refuse 12 (ltb (length answers) (3 * y .documents)) (answered (placedListing (y .documents) (r .from) (part (r .from) (r .to) (y .entries))))))))
+          ∙ listing-over range (ltb (length answers) (3 * lib .documents)) answers;
+      first-places = λ range r d e some.
+          let (order, inside) = range-inside range r e in
+          first-place-select d (lib .entries) (r .from) (r .to) order inside some;
       conjunctions = λ numbers size answers some.
           over
           (λ o.
@@ -124,12 +135,10 @@ module _ (lib : Library) (v : Valid lib) where
           (λ ps. refuse 11 (any (leb (length (lib .lengths))) (take size numbers)) (refuse 12 (ltb (length answers) (2 * lib .documents)) (answered ps))) some);
       ranges = λ range. over (λ o. andThen o (λ y. boundsOf y range));
       greedy = λ range k allowance answers work.
-          search-over range k answers work
-          (λ N xs.
-          let answer = topK (height N) N xs k allowance in
-          record { documents = N; pairs = pairsOf answer; answer = endedOf answer });
+          search-over range k answers work (λ N from xs. foundOf (withPlaces from xs) N (topK (height N) N xs k allowance));
       probing = λ range k answers work.
-          search-over range k answers work (λ N xs. let full = fullList N k xs in record { documents = N; pairs = full; answer = length full });
+          search-over range k answers work
+          (λ N from xs. let full = fullList N k xs in record { documents = N; numbers = withPlaces from xs full; answer = length full });
     }
 
 -- ---- an archive

@@ -10,8 +10,8 @@ use Rattle.bits.specs.Sequences.{tally, below, occurrences}
 use Rattle.model.specs.Lists.{Every, Sorted, overwrite}
 use Rattle.model.specs.Outcome.{Outcome, answered, refused}
 use Rattle.model.specs.Rows.{height}
-use Rattle.model.specs.Queries.{Pair, flat}
-use Rattle.model.specs.TopK.{start, countIn, innerNodes, ahead, last, Ended, doneWith, spentWith, SearchResult}
+use Rattle.model.specs.Queries.{Pair}
+use Rattle.model.specs.TopK.{start, countIn, innerNodes, ahead, last, withPlaces, Ended, doneWith, spentWith, SearchResult}
 use Rattle.model.specs.Search.{isOpening, searchMoves}
 
 -- whether it is 'done'
@@ -26,14 +26,14 @@ figure (answered (doneWith listed openings)) = openings
 figure (answered (spentWith listed allowance)) = allowance
 figure (refused number) = 0
 
--- lent slices as long as document 01 asks
-pub record Room (N k : ℕ) (out work : List ℕ) : Type 0 where
-  pub answers : 2 * min k N ≤ length out
+-- lent slices as long as document 01 asks, with so many numbers a document for the answers: three with its first place (M-108), else two
+pub record Room (each N k : ℕ) (out work : List ℕ) : Type 0 where
+  pub answers : each * min k N ≤ length out
   pub working : 4 * N ≤ length work
 
--- of a range's entries xs in a library of N documents (sheets): what the greedy search leaves where `out` was lent for the answers, and what
+-- of a range's entries xs, from a place on, in a library of N documents (sheets): what the greedy search leaves where `out` was lent for the answers, and what
 -- probing leaves where `out′` was
-pub record Demand3 (N k allowance : ℕ) (xs out : List ℕ) (greedy : SearchResult Ended) (out′ : List ℕ) (probing : SearchResult ℕ) : Type 0 where
+pub record Demand3 (N k allowance from : ℕ) (xs out : List ℕ) (greedy : SearchResult Ended) (out′ : List ℕ) (probing : SearchResult ℕ) : Type 0 where
   pub full : List Pair
   -- "the full list has exactly k .. sheets .., or all if it has fewer"
   pub exactly-k : length full ≡ min k (tally (λ d. ltb 0 (occurrences d xs)) (below N))
@@ -56,9 +56,9 @@ pub record Demand3 (N k allowance : ℕ) (xs out : List ℕ) (greedy : SearchRes
       ≡ tally (λ n. ltb (last p ps .count) (countIn xs n) || eqb (countIn xs n) (last p ps .count) && leb (start n) (last p ps .document)) (innerNodes (height N))
   -- "an empty list needs none"
   pub needs-none : needOf [] ≡ 0
-  -- "The shortlist answers 'done' with the full list and its need ..
+  -- "The shortlist answers 'done' with the full list and its need .., each document with its first place (M-108)
   pub done : needOf full ≤ allowance
-      → (greedy .outcome ≡ answered (doneWith (length full) (needOf full))) × (greedy .answers ≡ overwrite (flat full) out)
+      → (greedy .outcome ≡ answered (doneWith (length full) (needOf full))) × (greedy .answers ≡ overwrite (withPlaces from xs full) out)
   -- .. exactly when the allowance covers that need"
   pub exactly-when : isDone (greedy .outcome) ≡ leb (needOf full) allowance
   -- "the longest front part of the full list whose own need it covers": the first so many pairs
@@ -68,8 +68,8 @@ pub record Demand3 (N k allowance : ℕ) (xs out : List ℕ) (greedy : SearchRes
   pub front-longest : (n : ℕ) → front < n → n ≤ length full → allowance < needOf (take n full)
   -- "and otherwise 'spent' with the allowance and" that front part
   pub spent : allowance < needOf full
-      → (greedy .outcome ≡ answered (spentWith front allowance)) × (greedy .answers ≡ overwrite (flat (take front full)) out)
+      → (greedy .outcome ≡ answered (spentWith front allowance)) × (greedy .answers ≡ overwrite (withPlaces from xs (take front full)) out)
   -- "Either number is how many moves opened a block"
   pub openings : figure (greedy .outcome) ≡ tally isOpening (searchMoves (height N) xs k allowance)
   -- "The probing shortlist, which has no allowance, answers the full list"
-  pub probed : (probing .outcome ≡ answered (length full)) × (probing .answers ≡ overwrite (flat full) out′)
+  pub probed : (probing .outcome ≡ answered (length full)) × (probing .answers ≡ overwrite (withPlaces from xs full) out′)

@@ -31,6 +31,7 @@ pub mod Cases
 pub mod WeightedCases
 pub mod DistinctCases
 pub mod PlaceCases
+pub mod FirstPlaceCases
 pub mod RateCases
 pub mod HalvingCases
 pub mod ReadingCases

@@ -93,7 +93,7 @@ pairAt out i = pair (getD out (2 * i) 0) (getD out (2 * i + 1) 0)
 abbrev pub pairsIn : List ℕ → ℕ → List Pair
 pairsIn out n = map (pairAt out) (below n)
 
--- how many pairs, or how many documents alone (M-104), and the final content of the answer slice
+-- how many pairs, with a place or without (M-108), or how many documents alone (M-104), and the final content of the answer slice
 pub record PairsResult : Type 0 where
   pub outcome : Outcome ℕ
   pub answers : List ℕ
@@ -102,7 +102,27 @@ abbrev pub pairsInto : List ℕ → Outcome (List Pair) → PairsResult
 pairsInto answers (answered ps) = record { outcome = answered (length ps); answers = overwrite (flat ps) answers }
 pairsInto answers (refused number) = record { outcome = refused number; answers = answers }
 
--- ---- list: every document in the range once, ascending, with its count
+-- ---- answers with places: a document's count in a range and where it first stands there (document 02, M-108)
+
+-- "place of its first entry in the range, counted from entry 0", where the range xs starts at place `from`
+abbrev pub firstPlace : ℕ → List ℕ → ℕ → ℕ
+firstPlace from xs d = from + select d xs 1
+
+-- pairs as they go into a slice with the place of each document: three numbers a document
+abbrev pub flatPlaced : (ℕ → ℕ) → List Pair → List ℕ
+flatPlaced place [] = []
+flatPlaced place (p ∷ ps) = p .document ∷ p .count ∷ place (p .document) ∷ flatPlaced place ps
+
+-- pairs, and the place of each document
+pub record Placed : Type 0 where
+  pub pairs : List Pair
+  pub place : ℕ → ℕ
+
+abbrev pub placedInto : List ℕ → Outcome Placed → PairsResult
+placedInto answers (answered ps) = record { outcome = answered (length (ps .pairs)); answers = overwrite (flatPlaced (ps .place) (ps .pairs)) answers }
+placedInto answers (refused number) = record { outcome = refused number; answers = answers }
+
+-- ---- list: every document in the range once, ascending, with its count and its first place
 
 -- a document's count in a range: the entries there that equal it
 abbrev pub pairOf : List ℕ → ℕ → Pair
@@ -115,11 +135,17 @@ present p = ltb 0 (p .count)
 abbrev pub listing : ℕ → List ℕ → List Pair
 listing N xs = keep present (map (pairOf xs) (below N))
 
+-- the listing of the entries xs, which start at place `from`, with the first places
+abbrev pub placedListing : ℕ → ℕ → List ℕ → Placed
+placedListing N from xs = record { pairs = listing N xs; place = firstPlace from xs }
+
 abbrev pub listResult : List ℕ → Range → List ℕ → PairsResult
 listResult bytes range answers =
-    pairsInto answers
+    placedInto answers
     (andThen (opened bytes)
-    (λ lib. andThen (inRange lib range) (λ xs. refuse 12 (ltb (length answers) (2 * lib .documents)) (answered (listing (lib .documents) xs)))))
+    (λ lib.
+    andThen (boundsOf lib range)
+    (λ r. refuse 12 (ltb (length answers) (3 * lib .documents)) (answered (placedListing (lib .documents) (r .from) (part (r .from) (r .to) (lib .entries)))))))
 
 -- ---- conjunction: the documents with an entry under each of the terms, ascending, with the sum of their counts
 

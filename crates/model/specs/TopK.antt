@@ -6,11 +6,11 @@ use lib.ListN.{length, take, replicate}
 use lib.Dec.{leb, ltb, eqb}
 use Rattle.bits.specs.Sequences.{tally, below}
 use Rattle.bits.specs.Bits.{concat}
-use Rattle.model.specs.Lists.{overwrite, insertBy, sortBy}
+use Rattle.model.specs.Lists.{part, overwrite, insertBy, sortBy}
 use Rattle.model.specs.Outcome.{Outcome, answered, refused, refuse, andThen}
 use Rattle.model.specs.Rows.{height}
 use Rattle.model.specs.Opening.{opened}
-use Rattle.model.specs.Queries.{Range, inRange, Pair, flat, listing}
+use Rattle.model.specs.Queries.{Range, boundsOf, Pair, firstPlace, flatPlaced, listing}
 
 -- ---- nodes (blocks)
 
@@ -121,10 +121,10 @@ abbrev pub pairsOf : Answer → List Pair
 pairsOf (done ps openings) = ps
 pairsOf (spent ps allowance) = ps
 
--- what a search of a library with N documents finds, with what it answers
+-- what a search of a library with N documents finds: the numbers that go into the answer slice, and what it answers
 pub record Found (A : Type 0) : Type 0 where
   pub documents : ℕ
-  pub pairs : List Pair
+  pub numbers : List ℕ
   pub answer : A
 
 -- the answer, and the final content of the answer slice and of the work slice
@@ -133,38 +133,42 @@ pub record SearchResult (A : Type 0) : Type 0 where
   pub answers : List ℕ
   pub work : List ℕ
 
--- the pairs go into the answer slice; the first 4 * N numbers of the work slice are 0, and the rest of both is untouched
+-- the numbers go into the answer slice; the first 4 * N numbers of the work slice are 0, and the rest of both is untouched
 abbrev pub foundInto : {A : Type 0} → List ℕ → List ℕ → Outcome (Found A) → SearchResult A
 foundInto answers work (answered f) = record {
   outcome = answered (f .answer);
-  answers = overwrite (flat (f .pairs)) answers;
+  answers = overwrite (f .numbers) answers;
   work = overwrite (replicate (4 * f .documents) 0) work;
 }
 foundInto answers work (refused number) = record { outcome = refused number; answers = answers; work = work }
 
--- both searches refuse alike, and then search the entries of the range
-abbrev pub searchResult : {A : Type 0} → List ℕ → Range → ℕ → List ℕ → List ℕ → (ℕ → List ℕ → Found A) → SearchResult A
+-- both searches refuse alike, and then search the entries of the range, which start at a place. 12 asks three numbers a document (document 02, M-108)
+abbrev pub searchResult : {A : Type 0} → List ℕ → Range → ℕ → List ℕ → List ℕ → (ℕ → ℕ → List ℕ → Found A) → SearchResult A
 searchResult bytes range k answers work search =
     foundInto answers work
     (andThen (opened bytes)
     (λ lib.
-    andThen (inRange lib range)
-    (λ xs.
-    refuse 12 (ltb (length answers) (2 * min k (lib .documents)))
-    (refuse 13 (ltb (length work) (4 * lib .documents)) (answered (search (lib .documents) xs))))))
+    andThen (boundsOf lib range)
+    (λ r.
+    refuse 12 (ltb (length answers) (3 * min k (lib .documents)))
+    (refuse 13 (ltb (length work) (4 * lib .documents)) (answered (search (lib .documents) (r .from) (part (r .from) (r .to) (lib .entries))))))))
 
--- what is found in a library with N documents, by the answer
-abbrev pub foundOf : ℕ → Answer → Found Ended
-foundOf N answer = record { documents = N; pairs = pairsOf answer; answer = endedOf answer }
+-- what is found in a library with N documents, by the answer and by how its pairs go into a slice
+abbrev pub foundOf : (List Pair → List ℕ) → ℕ → Answer → Found Ended
+foundOf write N answer = record { documents = N; numbers = write (pairsOf answer); answer = endedOf answer }
+
+-- a range's pairs go into a slice with the first places (document 02, M-108)
+abbrev pub withPlaces : ℕ → List ℕ → List Pair → List ℕ
+withPlaces from xs = flatPlaced (firstPlace from xs)
 
 -- greedy top-k (shortlist)
 abbrev pub greedyResult : List ℕ → Range → ℕ → ℕ → List ℕ → List ℕ → SearchResult Ended
 greedyResult bytes range k allowance answers work =
     searchResult bytes range k answers work
-    (λ N xs. foundOf N (topK (height N) N xs k allowance))
+    (λ N from xs. foundOf (withPlaces from xs) N (topK (height N) N xs k allowance))
 
 -- probing top-k (probing shortlist): the full list, no allowance; it answers how many pairs
 abbrev pub probingResult : List ℕ → Range → ℕ → List ℕ → List ℕ → SearchResult ℕ
 probingResult bytes range k answers work =
     searchResult bytes range k answers work
-    (λ N xs. let full = fullList N k xs in record { documents = N; pairs = full; answer = length full })
+    (λ N from xs. let full = fullList N k xs in record { documents = N; numbers = withPlaces from xs full; answer = length full })

@@ -11,7 +11,7 @@ use Rattle.model.specs.Outcome.{answered, refuse, andThen}
 use Rattle.model.specs.Rows.{height}
 use Rattle.model.specs.Format.{Library}
 use Rattle.model.specs.Opening.{opened}
-use Rattle.model.specs.Queries.{Pair, under}
+use Rattle.model.specs.Queries.{Pair, flat, under}
 use Rattle.model.specs.RarestFirst.{rarestFirst}
 use Rattle.model.specs.TopK.{Node, node, start, countIn, innerNodes, ranking, needBy, Answer, answerBy, Ended, Found, foundOf, SearchResult, foundInto}
 use Rattle.model.specs.Search.{Waiting, Move, movesFrom}
@@ -108,7 +108,7 @@ module _ (ws : List Weighed) where
 
 -- what a search of a library finds
 abbrev pub weightedFound : Library → List ℕ → ℕ → ℕ → Found Ended
-weightedFound lib terms k allowance = foundOf (lib .documents) (weightedTopK (weighed lib terms) (height (lib .documents)) (lib .documents) k allowance)
+weightedFound lib terms k allowance = foundOf flat (lib .documents) (weightedTopK (weighed lib terms) (height (lib .documents)) (lib .documents) k allowance)
 
 -- the question holds so many of the given numbers, one to eight; refused as the conjunction is, then as the shortlist is. After the refusals a repeated term
 -- counts once (M-101), and scores are added up by the rarest term first (M-107)

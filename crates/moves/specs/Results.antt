@@ -7,6 +7,7 @@ use lib.ListN.{length, drop, set}
 use lib.Dec.{ltb}
 use Rattle.frontier.specs.Heap.{queue, Heap}
 use Rattle.model.specs.Outcome.{Outcome, answered, refused}
+use Rattle.model.specs.Queries.{flat}
 use Rattle.model.specs.TopK.{doneWith, spentWith, Found, foundOf, SearchResult}
 use Rattle.model.specs.TopK as model
 use Rattle.model.specs.Search.{Move, names, opens, findsSpent, answerOf}
@@ -73,6 +74,11 @@ abbrev pub endedIs : Ended → model.Ended
 endedIs (Done listed openings) = doneWith listed openings
 endedIs (Spent listed allowance) = spentWith listed allowance
 
+-- so many documents are listed, whichever way it ended
+abbrev pub listedBy : model.Ended → ℕ
+listedBy (doneWith listed openings) = listed
+listedBy (spentWith listed allowance) = listed
+
 -- the openings counted, whichever way it ended
 abbrev pub endedBy : Progress → model.Ended
 endedBy p = cond (p .spent) (spentWith (p .listed) (p .openings)) (doneWith (p .listed) (p .openings))
@@ -83,7 +89,7 @@ resultIs r answers work = record { outcome = answered (endedIs r); answers = ans
 
 -- what is to be found: the answer that is read off the moves
 abbrev pub foundBy : Ground → ℕ → ℕ → Found model.Ended
-foundBy G k allowance = foundOf (G .documents) (answerOf (movesOf G k allowance))
+foundBy G k allowance = foundOf flat (G .documents) (answerOf (movesOf G k allowance))
 
 -- ---- the answer to a question, with its refusals
 

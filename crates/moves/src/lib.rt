@@ -6,6 +6,7 @@ pub use progress::Progress;
 pub use progress::answer_of;
 pub use progress::ending;
 pub use progress::goes_on;
+pub use progress::listed;
 pub use progress::tell;
 
 // Each move of the search names a document with its count, opens a node, or finds its allowance spent.
@@ -21,7 +22,7 @@ pub struct Moved {
     pub waiting: usize,
 }
 
-// How a search ended: so many pairs listed, and the openings needed or the allowance.
+// How a search ended: so many documents listed, and the openings needed or the allowance.
 pub enum Ended {
     Done { listed: u32, openings: u32 },
     Spent { listed: u32, allowance: u32 },

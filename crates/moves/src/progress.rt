@@ -8,7 +8,7 @@ ghost use Prim.Native.Nat.{_+_, _*_, _^_, _≤_, _<_};
 ghost use lib.ListN.{length, set};
 ghost use Rattle.model.specs.Outcome.{answered};
 ghost use Rattle.moves.specs.Moves.{moveIs};
-ghost use Rattle.moves.specs.Results.{goesOn, after, roomFor, countable, writtenBy, endedBy, endedIs, topKOf};
+ghost use Rattle.moves.specs.Results.{goesOn, after, roomFor, countable, writtenBy, endedBy, endedIs, listedBy, topKOf};
 
 // How far a search is: the nodes that wait, the pairs listed, the moves that opened a node, and whether the allowance was found spent.
 pub struct Progress {
@@ -94,6 +94,22 @@ pub fn ending(p: Progress) -> Ended
             listed,
             openings: p.openings,
         }
+    }
+}
+
+// How many documents it lists, whichever way it ended.
+pub fn listed(e: Ended) -> usize
+    ensures { λ r. ⌜ r ≡ listedBy (endedIs e) ⌝ }
+{
+    match e {
+        Ended::Done {
+            listed,
+            openings: _,
+        } => listed as usize,
+        Ended::Spent {
+            listed,
+            allowance: _,
+        } => listed as usize,
     }
 }
 

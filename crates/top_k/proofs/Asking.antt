@@ -13,7 +13,7 @@ use Rattle.model.specs.Outcome.{Outcome, answered, refused, refuse, andThen}
 use Rattle.model.specs.Format.{Library}
 use Rattle.model.specs.Opening.{opened, contents}
 use Rattle.model.specs.Queries as model
-use Rattle.model.specs.Queries.{boundsOf, inRange}
+use Rattle.model.specs.Queries.{Bounds, boundsOf}
 use Rattle.model.specs.TopK.{Found, foundInto, searchResult, greedyResult, probingResult}
 use Rattle.archive.specs.declared.Layout.{Layout}
 use Rattle.archive_ranges.specs.declared.Range.{Range}
@@ -30,39 +30,50 @@ use Rattle.top_k.specs.Asked.{withRoom, asked, queryWith, queryFor, aske
 
 -- ---- the results of model
 
-module _ {A : Type 0} (bytes : List ℕ) (r : model.Range) (k : ℕ) (answers work : List ℕ) (search : ℕ → List ℕ → Found A) where
+module _ {A : Type 0} (bytes : List ℕ) (r : model.Range) (k : ℕ) (answers work : List ℕ) (search : ℕ → ℕ → List ℕ → Found A) where
   abbrev then : Asked → Outcome (Found A)
-  then x = answered (search (x .documents) (x .entries))
+  then x = answered (search (x .documents) (x .from) (x .entries))
 
-  room-then : (N : ℕ) (xs : List ℕ) (b c : Bool)
-      → refuse 12 b (refuse 13 c (answered (search N xs)))
-      ≡ andThen (refuse 12 b (refuse 13 c (answered (record { documents = N; entries = xs })))) then
-  room-then N xs true c = refl
-  room-then N xs false true = refl
-  room-then N xs false false = refl
+  room-then : (N from : ℕ) (xs : List ℕ) (b c : Bool)
+      → refuse 12 b (refuse 13 c (answered (search N from xs)))
+      ≡ andThen (refuse 12 b (refuse 13 c (answered (record { documents = N; from = from; entries = xs })))) then
+  room-then N from xs true c = refl
+  room-then N from xs false true = refl
+  room-then N from xs false false = refl
 
   -- a search finds what it finds in what is asked
   pub search-asked : searchResult bytes r k answers work search
       ≡ foundInto answers work (andThen (asked bytes r k (length answers) (length work)) then)
   search-asked = ap (foundInto answers work) (from (opened bytes))
     where
-      inside : (lib : Library) (o : Outcome (List ℕ))
-          → andThen o (λ xs. refuse 12 (ltb (length answers) (2 * min k (lib .documents))) (refuse 13 (ltb (length work) (4 * lib .documents)) (answered (search (lib .documents) xs))))
-          ≡ andThen (andThen o (λ xs. withRoom k (length answers) (length work) (record { documents = lib .documents; entries = xs }))) then
-      inside lib (answered xs) =
-          room-then (lib .documents) xs (ltb (length answers) (2 * min k (lib .documents))) (ltb (length work) (4 * lib .documents))
+      inside : (lib : Library) (o : Outcome Bounds)
+          → andThen o
+          (λ ends.
+          refuse 12 (ltb (length answers) (3 * min k (lib .documents)))
+          (refuse 13 (ltb (length work) (4 * lib .documents)) (answered (search (lib .documents) (ends .from) (part (ends .from) (ends .to) (lib .entries))))))
+          ≡ andThen
+          (andThen o
+          (λ ends. withRoom k (length answers) (length work) (record { documents = lib .documents; from = ends .from; entries = part (ends .from) (ends .to) (lib .entries) })))
+          then
+      inside lib (answered ends) =
+          room-then (lib .documents) (ends .from) (part (ends .from) (ends .to) (lib .entries)) (ltb (length answers) (3 * min k (lib .documents)))
+          (ltb (length work) (4 * lib .documents))
       inside lib (refused number) = refl
 
       from : (o : Outcome Library)
           → andThen o
           (λ lib.
-          andThen (inRange lib r)
-          (λ xs. refuse 12 (ltb (length answers) (2 * min k (lib .documents))) (refuse 13 (ltb (length work) (4 * lib .documents)) (answered (search (lib .documents) xs)))))
+          andThen (boundsOf lib r)
+          (λ ends.
+          refuse 12 (ltb (length answers) (3 * min k (lib .documents)))
+          (refuse 13 (ltb (length work) (4 * lib .documents)) (answered (search (lib .documents) (ends .from) (part (ends .from) (ends .to) (lib .entries)))))))
           ≡ andThen
           (andThen o
-          (λ lib. andThen (inRange lib r) (λ xs. withRoom k (length answers) (length work) (record { documents = lib .documents; entries = xs }))))
+          (λ lib.
+          andThen (boundsOf lib r)
+          (λ ends. withRoom k (length answers) (length work) (record { documents = lib .documents; from = ends .from; entries = part (ends .from) (ends .to) (lib .entries) }))))
           then
-      from (answered lib) = inside lib (inRange lib r)
+      from (answered lib) = inside lib (boundsOf lib r)
       from (refused number) = refl
 
 -- ---- the question
@@ -70,7 +81,7 @@ module _ {A : Type 0} (bytes : List ℕ) (r : model.Range) (k : ℕ) (answers wo
 -- refusals 12 and 13
 module _ (bytes : List ℕ) (k answers work : ℕ) (s : Search) (ok : Searchable bytes s) where
   pub room-same : askedIn bytes (queryWith k answers work s) ≡ withRoom k answers work (entriesOf bytes s)
-  room-same = go (ltb answers (2 * min k (s .documents))) (ltb work (4 * s .documents))
+  room-same = go (ltb answers (3 * min k (s .documents))) (ltb work (4 * s .documents))
     where
       go : (b c : Bool) → askedIn bytes (cond b (query.Refused 12) (cond c (query.Refused 13) (query.Over s)))
           ≡ refuse 12 b (refuse 13 c (answered (entriesOf bytes s)))
@@ -79,14 +90,14 @@ module _ (bytes : List ℕ) (k answers work : ℕ) (s : Search) (ok : Searchable
       go false false = refl
 
   pub room-ready : Ready bytes k answers work (queryWith k answers work s)
-  room-ready = go (look (ltb answers (2 * min k (s .documents)))) (look (ltb work (4 * s .documents)))
+  room-ready = go (look (ltb answers (3 * min k (s .documents)))) (look (ltb work (4 * s .documents)))
     where
-      go : (ltb answers (2 * min k (s .documents)) ≡ true) ⊎ (ltb answers (2 * min k (s .documents)) ≡ false)
+      go : (ltb answers (3 * min k (s .documents)) ≡ true) ⊎ (ltb answers (3 * min k (s .documents)) ≡ false)
           → (ltb work (4 * s .documents) ≡ true) ⊎ (ltb work (4 * s .documents) ≡ false)
           → Ready bytes k answers work (queryWith k answers work s)
       go (inl e) f = rw e tt
       go (inr e) (inl f) = rw (e, f) tt
-      go (inr e) (inr f) = rw (e, f) (ok, (ltb-false answers (2 * min k (s .documents)) e, ltb-false work (4 * s .documents) f))
+      go (inr e) (inr f) = rw (e, f) (ok, (ltb-false answers (3 * min k (s .documents)) e, ltb-false work (4 * s .documents) f))
 
 module _ (bytes : List ℕ) (r : model.Range) (k answers work : ℕ) where
   module _ (l : Layout) (o : Opened bytes l) where
@@ -112,7 +123,7 @@ module _ (bytes : List ℕ) (r : model.Range) (k answers work : ℕ) where
         let ok = searchable a b inside in
         record {
           same = room-same bytes k answers work (searchAt a b) ok ∙ rw (o .accepted, ← e)
-              (λ i. withRoom k answers work (record { documents = sym (documents-are bytes l o) i; entries = part a b (entries-are bytes l o i) }));
+              (λ i. withRoom k answers work (record { documents = sym (documents-are bytes l o) i; from = a; entries = part a b (entries-are bytes l o i) }));
           ready = room-ready bytes k answers work (searchAt a b) ok;
         }
 
@@ -127,9 +138,9 @@ module _ (bytes : List ℕ) (r : model.Range) (k : ℕ) (answers work : List ℕ
       → foundInto answers work (andThen (askedIn bytes q) (λ x. answered (greedyOf k allowance x))) ≡ greedyResult bytes r k allowance answers work
   greedy-posed allowance =
       ap (λ (o : Outcome Asked). foundInto answers work (andThen o (λ x. answered (greedyOf k allowance x)))) (p .same)
-      ∙ sym (search-asked bytes r k answers work (λ N xs. greedyOf k allowance (record { documents = N; entries = xs })))
+      ∙ sym (search-asked bytes r k answers work (λ N from xs. greedyOf k allowance (record { documents = N; from = from; entries = xs })))
 
   pub probing-posed : foundInto answers work (andThen (askedIn bytes q) (λ x. answered (probingOf k x))) ≡ probingResult bytes r k answers work
   probing-posed =
       ap (λ (o : Outcome Asked). foundInto answers work (andThen o (λ x. answered (probingOf k x)))) (p .same)
-      ∙ sym (search-asked bytes r k answers work (λ N xs. probingOf k (record { documents = N; entries = xs })))
+      ∙ sym (search-asked bytes r k answers work (λ N from xs. probingOf k (record { documents = N; from = from; entries = xs })))

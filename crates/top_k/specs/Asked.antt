@@ -4,10 +4,11 @@ use mathlib.Core.Path.{_≡_}
 use mathlib.Core.List.{List}
 use mathlib.Core.Bool.{cond}
 use lib.Dec.{ltb}
+use Rattle.model.specs.Lists.{part}
 use Rattle.model.specs.Outcome.{Outcome, answered, refused, refuse, andThen}
 use Rattle.model.specs.Opening.{opened}
 use Rattle.model.specs.Queries as model
-use Rattle.model.specs.Queries.{inRange}
+use Rattle.model.specs.Queries.{boundsOf}
 use Rattle.model.specs.TopK.{Ended, Found, SearchResult}
 use Rattle.archive.specs.declared.Layout.{Layout}
 use Rattle.archive_ranges.specs.declared.Range.{Range}
@@ -22,9 +23,9 @@ use Rattle.search.specs.Sought.{Asked, entriesOf, greedyOf, probingOf}
 
 -- ---- the answers
 
--- document 01's number and values for each case: how many pairs, or a refusal
+-- document 01's number and values for each case: how many documents, or a refusal
 abbrev pub probedOf : Probed → Outcome ℕ
-probedOf (probed.Pairs listed) = answered listed
+probedOf (probed.Listed listed) = answered listed
 probedOf (probed.Refused number) = refused number
 
 -- the answer, with the final content of the lent slices
@@ -40,23 +41,25 @@ probingFound k asked = andThen asked (λ x. answered (probingOf k x))
 
 -- ---- the question
 
--- refusals 12 and 13, where slices of the given lengths are lent
+-- refusals 12, three numbers a document (M-108), and 13, where slices of the given lengths are lent
 abbrev pub withRoom : ℕ → ℕ → ℕ → Asked → Outcome Asked
 withRoom k answers work x =
-    refuse 12 (ltb answers (2 * min k (x .documents))) (refuse 13 (ltb work (4 * x .documents)) (answered x))
+    refuse 12 (ltb answers (3 * min k (x .documents))) (refuse 13 (ltb work (4 * x .documents)) (answered x))
 
 -- all refusals, else what is searched: as `searchResult` has it
 abbrev pub asked : List ℕ → model.Range → ℕ → ℕ → ℕ → Outcome Asked
 asked bytes r k answers work =
     andThen (opened bytes)
-    (λ lib. andThen (inRange lib r) (λ xs. withRoom k answers work (record { documents = lib .documents; entries = xs })))
+    (λ lib.
+    andThen (boundsOf lib r)
+    (λ ends. withRoom k answers work (record { documents = lib .documents; from = ends .from; entries = part (ends .from) (ends .to) (lib .entries) })))
 
 -- ---- the question as the code holds it
 
 -- a search, or refusal 12 or 13
 abbrev pub queryWith : ℕ → ℕ → ℕ → Search → Query
 queryWith k answers work s =
-    cond (ltb answers (2 * min k (s .documents))) (query.Refused 12) (cond (ltb work (4 * s .documents)) (query.Refused 13) (query.Over s))
+    cond (ltb answers (3 * min k (s .documents))) (query.Refused 12) (cond (ltb work (4 * s .documents)) (query.Refused 13) (query.Over s))
 
 -- the search of a range in the given layout, or a refusal
 abbrev pub queryFor : Layout → ℕ → ℕ → ℕ → Range → Query
@@ -71,7 +74,7 @@ askedIn bytes (query.Refused number) = refused number
 
 -- a question that is not refused can be searched, with lent slices of the given lengths
 abbrev pub Ready : List ℕ → ℕ → ℕ → ℕ → Query → Type 0
-Ready bytes k answers work (query.Over s) = Searchable bytes s × ((2 * min k (s .documents) ≤ answers) × (4 * s .documents ≤ work))
+Ready bytes k answers work (query.Over s) = Searchable bytes s × ((3 * min k (s .documents) ≤ answers) × (4 * s .documents ≤ work))
 Ready bytes k answers work (query.Refused number) = Unit {0}
 
 -- the code's question is the one that is asked

@@ -19,8 +19,8 @@ pub enum Query {
     Refused(u32),
 }
 
-// Probing's answer: so many pairs listed, or the number of a refusal.
+// Probing's answer: so many documents listed, or the number of a refusal.
 pub enum Probed {
-    Pairs(u32),
+    Listed(u32),
     Refused(u32),
 }

@@ -1,4 +1,5 @@
-// Top-k of an archive: the greedy search and probing, over entries and over terms, each with its refusals. A refusal writes nothing.
+// Top-k of an archive: the greedy search and probing, over entries and over terms, each with its refusals and with the first places of what it lists
+// (document 02, M-108). A refusal writes nothing.
 // A name that ends in `_opened` is the question of an archive that was opened before.
 use crate::Probed;
 use crate::Query;
@@ -8,9 +9,11 @@ use archive::Opening;
 use archive::open;
 use archive_ranges::entry_range;
 use archive_ranges::term_range;
+use first_places::put_first_places;
 use greedy::greedy;
 use moves::TopK;
 use moves::answer_of;
+use moves::listed;
 use probing::probing;
 ghost use mathlib.Core.Path.{_≡_};
 ghost use lib.ListN.{length};
@@ -20,7 +23,7 @@ ghost use Rattle.archive.specs.Layout.{Opened};
 ghost use Rattle.moves.specs.Results.{topKIs};
 ghost use Rattle.top_k.specs.Asked.{probedIs, greedyFound, probingFound, Ready, askedIn};
 
-// The greedy search of a question.
+// The greedy search of a question; what it lists gets its first places.
 fn search_greedily(
     archive: &[u8],
     q: Query,
@@ -35,11 +38,15 @@ fn search_greedily(
 {
     match q {
         Query::Refused(number) => TopK::Refused(number),
-        Query::Over(s) => answer_of(greedy(archive, s, k, allowance, answers, work)),
+        Query::Over(s) => {
+            let ended = greedy(archive, s, k, allowance, answers, work);
+            put_first_places(archive, s.levels, s.a, s.b, listed(ended), answers);
+            answer_of(ended)
+        }
     }
 }
 
-// Probing for a question.
+// Probing for a question; what it lists gets its first places.
 fn search_by_probing(
     archive: &[u8],
     q: Query,
@@ -53,7 +60,11 @@ fn search_by_probing(
 {
     match q {
         Query::Refused(number) => Probed::Refused(number),
-        Query::Over(s) => Probed::Pairs(probing(archive, s, k, answers, work) as u32),
+        Query::Over(s) => {
+            let n = probing(archive, s, k, answers, work);
+            put_first_places(archive, s.levels, s.a, s.b, n, answers);
+            Probed::Listed(n as u32)
+        }
     }
 }
 

@@ -18,7 +18,7 @@ fn with_room(s: Search, k: u32, answers: usize, work: usize) -> Query
     requires { ⌜ s .documents ≤ 4096 ⌝ }
     ensures { λ q. ⌜ q ≡ queryWith k answers work s ⌝ }
 {
-    if answers < 2 * lesser(k, s.documents) {
+    if answers < 3 * lesser(k, s.documents) {
         return Query::Refused(12);
     }
     if work < 4 * s.documents {

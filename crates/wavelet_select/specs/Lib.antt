@@ -1,2 +1,3 @@
 -- What the contracts of select cite.
 pub mod Places
+pub mod First

@@ -19,7 +19,7 @@ fn pick(bit: usize, x: usize, y: usize) -> usize
 }
 
 // How far into the node of level j from start to end, with `before` ones before it, what is k into a half stands.
-fn up(
+pub fn up(
     bytes: &[u8],
     t: Levels,
     j: usize,

@@ -5,6 +5,7 @@ use mathlib.Core.List.{List}
 use lib.ListN.{length}
 use Rattle.model.specs.Opening.{contents}
 use Rattle.model.specs.Rows.{height}
+use Rattle.model.specs.Queries.{flat}
 use Rattle.model.specs.TopK.{foundOf}
 use Rattle.model.specs.Search.{Waiting, answerOf, movesFrom}
 use Rattle.model.specs.Weighted.{Weighed, scoreIn, livesIn, weightedTopK, weightedFound}
@@ -25,12 +26,12 @@ module _ (bytes : List ℕ) (l : Layout) (o : Opened bytes l) (q : Terms) (a : A
   -- the root waits first with the score that the weights and the terms' lengths give
   pub found-moves : foundBy (groundOf bytes l q) k allowance ≡ foundIn bytes l q k allowance
   found-moves =
-      ap (λ (w : List Waiting). foundOf (l .documents) (answerOf (movesFrom (scoreIn ws) (livesIn ws) (k + allowance) k allowance w)))
+      ap (λ (w : List Waiting). foundOf flat (l .documents) (answerOf (movesFrom (scoreIn ws) (livesIn ws) (k + allowance) k allowance w)))
       (sym (weighted-begin (l .levels .height) ws (all-within-le (l .documents) (2 ^ l .levels .height) (documents-fit bytes l o) ws (terms-within bytes l o q a eight))))
 
   pub found-answer : foundIn bytes l q k allowance ≡ weightedFound (contents bytes) (termsOf q) k allowance
   found-answer =
-      ap (foundOf (l .documents))
+      ap (foundOf flat (l .documents))
       (weighted (l .levels .height) (l .documents) (documents-fit bytes l o) ws (terms-within bytes l o q a eight) k allowance
       ∙ ap (λ (h : ℕ). weightedTopK ws h (l .documents) k allowance) (ap (λ (x : Layout). x .levels .height) (o .shape)))
-      ∙ ap (λ (N : ℕ). foundOf N (weightedTopK ws (height N) N k allowance)) (sym (documents-are bytes l o))
+      ∙ ap (λ (N : ℕ). foundOf flat N (weightedTopK ws (height N) N k allowance)) (sym (documents-are bytes l o))

@@ -26,7 +26,7 @@ use Rattle.moves.specs.Results.{topKIs}
 -- for every accepted archive `bytes`, one to eight terms that it has, k and allowance, and whatever stands in lent slices as long as is asked: the
 -- answer, and what the slices hold after it
 pub demanded : (bytes : List ℕ) (s : Sizes) → opening bytes ≡ answered s → (q : Terms) → Asked (length (contents bytes .lengths)) q
-    → (k allowance : ℕ) (out work : List ℕ) → Room (contents bytes .documents) k out work
+    → (k allowance : ℕ) (out work : List ℕ) → Room 2 (contents bytes .documents) k out work
     → (answer : TopK) (after working : List ℕ)
     → topKIs answer after working ≡ weightedResult bytes (q .numbers) (q .size) k allowance out work
     → WeightedDemand (contents bytes) (termsOf q) k allowance out work (topKIs answer after working)

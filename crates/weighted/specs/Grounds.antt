@@ -4,6 +4,7 @@ use mathlib.Core.Path.{_≡_}
 use mathlib.Core.List.{List}
 use lib.ListN.{getD}
 use Rattle.model.specs.Opening.{contents}
+use Rattle.model.specs.Queries.{flat}
 use Rattle.model.specs.TopK.{Ended, Found, foundOf}
 use Rattle.model.specs.Search.{answerOf}
 use Rattle.model.specs.Weighted.{Weighed, weighedTerm, weighed, scoreIn, livesIn, weightedMoves}
@@ -32,4 +33,4 @@ groundOf bytes l q = record {
 
 -- what is to be found: the answer that is read off the moves. It is the one of `weightedResult` (`model/proofs/Weighted/Theorem`)
 abbrev pub foundIn : List ℕ → Layout → Terms → ℕ → ℕ → Found Ended
-foundIn bytes l q k allowance = foundOf (l .documents) (answerOf (weightedMoves (weighedIn bytes q) (l .levels .height) k allowance))
+foundIn bytes l q k allowance = foundOf flat (l .documents) (answerOf (weightedMoves (weighedIn bytes q) (l .levels .height) k allowance))

@@ -13,7 +13,7 @@ use Rattle.model.specs.Lists.{keep, any, insertBy, sortBy}
 use Rattle.model.specs.Distinct.{distinct}
 use Rattle.model.specs.Rows.{height}
 use Rattle.model.specs.Format.{Library}
-use Rattle.model.specs.Queries.{Pair}
+use Rattle.model.specs.Queries.{Pair, flat}
 use Rattle.model.specs.TopK.{Node, start, countIn, innerNodes, ranking, needBy, answerBy, foundOf}
 use Rattle.model.specs.RarestFirst.{rarer, rarestFirst}
 use Rattle.model.specs.Weighted.{Weighed, weighedTerm, weighed, scoreOf, isFound, scoreIn, livesIn, weightedTopK, weightedFound}
@@ -57,7 +57,7 @@ module _ (lib : Library) (terms : List ℕ) where
   -- what is found is what M-101 finds
   pub found-stays : (k allowance : ℕ) → weightedFound lib (rarestFirst lib terms) k allowance ≡ weightedFound lib (distinct terms) k allowance
   found-stays k allowance =
-      ap (foundOf (lib .documents))
+      ap (foundOf flat (lib .documents))
       (weighted-same (weighed lib (rarestFirst lib terms)) (weighed lib (distinct terms)) (λ d. sum-weighed (λ w. w .weight * occurrences d (w .entries)))
       (λ d. any-weighed (λ w. ltb 0 (occurrences d (w .entries)))) (λ n. sum-weighed (λ w. w .weight * countIn (w .entries) n))
       (λ n. any-weighed (λ w. ltb 0 (countIn (w .entries) n))) (height (lib .documents)) (lib .documents) k allowance)

@@ -18,7 +18,7 @@ use Rattle.model.specs.Outcome.{answered, refuse}
 use Rattle.model.specs.Rows.{height}
 use Rattle.model.specs.Format.{Library, Sizes}
 use Rattle.model.specs.Opening.{contents, opening}
-use Rattle.model.specs.Queries.{Pair, termStart, under}
+use Rattle.model.specs.Queries.{Pair, flat, termStart, under}
 use Rattle.model.specs.TopK.{Node, node, start, countIn, innerNodes, needBy, answerBy, Answer, Ended, foundOf, foundInto, SearchResult}
 use Rattle.model.specs.Search.{wait, movesFrom}
 use Rattle.model.specs.Weighted.{Weighed, documentsIn, weight, weighedTerm, weighed, scoreOf, isFound, scoreIn, livesIn, weightedTopK, weightedMoves, weightedFound, weightedResult}
@@ -128,8 +128,8 @@ module _ (lib : Library) (terms : List ℕ) where
       abbrev full : List Pair
       full = fullBy N k total has
 
-      by-need : r ≡ foundInto out work (answered (foundOf N (answerBy need allowance full)))
-      by-need = promise ∙ ap (λ (a : Answer). foundInto out work (answered (foundOf N a))) (answer-is k allowance)
+      by-need : r ≡ foundInto out work (answered (foundOf flat N (answerBy need allowance full)))
+      by-need = promise ∙ ap (λ (a : Answer). foundInto out work (answered (foundOf flat N a))) (answer-is k allowance)
 
       found : WeightedDemand lib given k allowance out work r
       found =
@@ -150,22 +150,22 @@ module _ (lib : Library) (terms : List ℕ) where
             needOf = need;
             needs = λ p ps. refl;
             needs-none = refl;
-            done = covering.left-done need refl allowance full N out work r by-need;
-            exactly-when = covering.done-exactly need refl allowance full N out work r by-need;
+            done = covering.left-done flat need refl allowance full N out work r by-need;
+            exactly-when = covering.done-exactly flat need refl allowance full N out work r by-need;
             front = L .size;
             front-part = L .within;
             front-covered = L .covers;
             front-longest = L .longest;
-            spent = covering.left-spent need refl allowance full N out work r by-need;
+            spent = covering.left-spent flat need refl allowance full N out work r by-need;
             moves = weightedMoves ws h k allowance;
-            openings = covering.left-figure need refl allowance full N out work r by-need
+            openings = covering.left-figure flat need refl allowance full N out work r by-need
                 ∙ ap figureOf (sym (answer-is k allowance) ∙ sym (weighted h N (le-pow-height N) ws (weighed-within lib within terms) k allowance))
                 ∙ figure-answer (weightedMoves ws h k allowance);
             moves-are = refl;
             moves-from = ap (movesFrom (scoreIn ws) (livesIn ws) (k + allowance) k allowance)
                 (weighted-begin h ws (all-within-le N (2 ^ h) (le-pow-height N) ws (weighed-within lib within terms)))
                 ∙ ap₂ (λ (c : Node → ℕ) (l : Node → Bool). movesFrom c l (k + allowance) k allowance (wait c l (node h 0) [])) nodeTotal-is nodeHas-is;
-            working = covering.left-work need refl allowance full N out work r by-need;
+            working = covering.left-work flat need refl allowance full N out work r by-need;
           }
 
 -- ---- the theorem
@@ -173,7 +173,7 @@ module _ (lib : Library) (terms : List ℕ) where
 -- for every accepted archive `bytes`, one to eight terms that it has, k and allowance, and whatever stands in lent slices as long as document 01 asks
 module _ (bytes : List ℕ) (s : Sizes) (archive : opening bytes ≡ answered s) (numbers : List ℕ) (size : ℕ) (some : 1 ≤ size) (few : size ≤ 8)
     (known : Within (length (contents bytes .lengths)) (take size numbers)) (k allowance : ℕ) (out work : List ℕ)
-    (room : Room (contents bytes .documents) k out work) where
+    (room : Room 2 (contents bytes .documents) k out work) where
   abbrev held : Library
   held = contents bytes
 

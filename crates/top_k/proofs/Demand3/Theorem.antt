@@ -11,7 +11,7 @@ use Rattle.model.specs.Outcome.{Outcome, answered, refuse, andThen}
 use Rattle.model.specs.Rows.{height}
 use Rattle.model.specs.Format.{Sizes}
 use Rattle.model.specs.Opening.{contents, opening}
-use Rattle.model.specs.Queries.{Pair, Range, ofEntries, ofTerms, Bounds, boundsOf, inRange, termStart}
+use Rattle.model.specs.Queries.{Pair, Range, ofEntries, ofTerms, Bounds, boundsOf, termStart}
 use Rattle.model.specs.TopK.{fullList, need, Ended, SearchResult, greedyResult, probingResult, foundInto}
 use Rattle.model.specs.Demand3.{Room, Demand3}
 use Rattle.model.proofs.Lists.{within-part}
@@ -35,7 +35,7 @@ module _ (k allowance : ℕ) (x : Asked) (within : Within (x .documents) (x .ent
   abbrev xs : List ℕ
   xs = x .entries
 
-  found : Demand3 N k allowance xs out g out′ p
+  found : Demand3 N k allowance (x .from) xs out g out′ p
   found =
       let full : List Pair = fullList N k xs in
       let L = front k x allowance in
@@ -68,24 +68,28 @@ module _ (k allowance : ℕ) (x : Asked) (within : Within (x .documents) (x .ent
 module _ (bytes : List ℕ) (s : Sizes) (archive : opening bytes ≡ answered s) (range : Range) (r : Bounds)
     (accepted : boundsOf (contents bytes) range ≡ answered r) (k allowance : ℕ) where
   abbrev searched : Asked
-  searched = record { documents = contents bytes .documents; entries = part (r .from) (r .to) (contents bytes .entries) }
+  searched = record { documents = contents bytes .documents; from = r .from; entries = part (r .from) (r .to) (contents bytes .entries) }
 
-  asked-is : (out work : List ℕ) → Room (searched .documents) k out work → asked bytes range k (length out) (length work) ≡ answered searched
+  asked-is : (out work : List ℕ) → Room 3 (searched .documents) k out work → asked bytes range k (length out) (length work) ≡ answered searched
   asked-is out work room =
       ap (λ (o : Outcome Sizes).
       andThen (andThen o (λ z. answered (contents bytes)))
-      (λ y. andThen (inRange y range) (λ xs. withRoom k (length out) (length work) (record { documents = y .documents; entries = xs })))) archive
+      (λ y.
+      andThen (boundsOf y range)
+      (λ z. withRoom k (length out) (length work) (record { documents = y .documents; from = z .from; entries = part (z .from) (z .to) (y .entries) })))) archive
       ∙ ap (λ (o : Outcome Bounds).
-      andThen (andThen o (λ z. answered (part (z .from) (z .to) (contents bytes .entries))))
-      (λ xs. withRoom k (length out) (length work) (record { documents = searched .documents; entries = xs }))) accepted
+      andThen o
+      (λ z.
+      withRoom k (length out) (length work) (record { documents = searched .documents; from = z .from; entries = part (z .from) (z .to) (contents bytes .entries) })))
+      accepted
       ∙ ap₂ (λ (c d : Bool). refuse 12 c (refuse 13 d (answered searched)))
-      (le-ltb (length out) (2 * min k (searched .documents)) (room .answers)) (le-ltb (length work) (4 * searched .documents) (room .working))
+      (le-ltb (length out) (3 * min k (searched .documents)) (room .answers)) (le-ltb (length work) (4 * searched .documents) (room .working))
 
-  pub demand-3 : (out work : List ℕ) → Room (contents bytes .documents) k out work
+  pub demand-3 : (out work : List ℕ) → Room 3 (contents bytes .documents) k out work
       → (greedy : SearchResult Ended) → greedy ≡ greedyResult bytes range k allowance out work
-      → (out′ work′ : List ℕ) → Room (contents bytes .documents) k out′ work′
+      → (out′ work′ : List ℕ) → Room 3 (contents bytes .documents) k out′ work′
       → (probing : SearchResult ℕ) → probing ≡ probingResult bytes range k out′ work′
-      → Demand3 (contents bytes .documents) k allowance (part (r .from) (r .to) (contents bytes .entries)) out greedy out′ probing
+      → Demand3 (contents bytes .documents) k allowance (r .from) (part (r .from) (r .to) (contents bytes .entries)) out greedy out′ probing
   demand-3 out work room g promise out′ work′ room′ p promise′ =
       found k allowance searched (within-part (searched .documents) (r .from) (r .to) (contents bytes .entries) (opened.accepted bytes s archive .0 .within))
       out work out′ work′
@@ -104,18 +108,18 @@ ByProbing bytes range k out work answer after working =
     _≡_ {A = SearchResult ℕ} (record { outcome = probedOf answer; answers = after; work = working }) (probingResult bytes range k out work)
 
 module _ (bytes : List ℕ) (s : Sizes) (archive : opening bytes ≡ answered s) (k allowance : ℕ)
-    (out work : List ℕ) (room : Room (contents bytes .documents) k out work) (answer : TopK) (after working : List ℕ)
-    (out′ work′ : List ℕ) (room′ : Room (contents bytes .documents) k out′ work′) (probed : Probed) (after′ working′ : List ℕ) where
-  abbrev Demanded : List ℕ → Type 0
-  Demanded xs =
-      Demand3 (contents bytes .documents) k allowance xs
+    (out work : List ℕ) (room : Room 3 (contents bytes .documents) k out work) (answer : TopK) (after working : List ℕ)
+    (out′ work′ : List ℕ) (room′ : Room 3 (contents bytes .documents) k out′ work′) (probed : Probed) (after′ working′ : List ℕ) where
+  abbrev Demanded : ℕ → List ℕ → Type 0
+  Demanded from xs =
+      Demand3 (contents bytes .documents) k allowance from xs
       out (record { outcome = topKOf answer; answers = after; work = working })
       out′ (record { outcome = probedOf probed; answers = after′; work = working′ })
 
   -- the entries a up to but without b
   pub of-entries : (a b : ℕ) → a ≤ b → b ≤ length (contents bytes .entries)
       → Greedily bytes (ofEntries a b) k allowance out work answer after working → ByProbing bytes (ofEntries a b) k out′ work′ probed after′ working′
-      → Demanded (part a b (contents bytes .entries))
+      → Demanded a (part a b (contents bytes .entries))
   of-entries a b order inside g p =
       let n : ℕ = length (contents bytes .entries) in
       let r : Bounds = record { from = a; to = b } in
@@ -128,7 +132,7 @@ module _ (bytes : List ℕ) (s : Sizes) (archive : opening bytes ≡ answered s)
   -- the terms f to l, both included
   pub of-terms : (f l : ℕ) → f ≤ l → l < length (contents bytes .lengths)
       → Greedily bytes (ofTerms f l) k allowance out work answer after working → ByProbing bytes (ofTerms f l) k out′ work′ probed after′ working′
-      → Demanded (part (termStart (contents bytes) f) (termStart (contents bytes) (suc l)) (contents bytes .entries))
+      → Demanded (termStart (contents bytes) f) (part (termStart (contents bytes) f) (termStart (contents bytes) (suc l)) (contents bytes .entries))
   of-terms f l order known g p =
       let W : ℕ = length (contents bytes .lengths) in
       let r : Bounds = record { from = termStart (contents bytes) f; to = termStart (contents bytes) (suc l) } in

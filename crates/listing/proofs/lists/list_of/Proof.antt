@@ -10,7 +10,7 @@ use Rattle.archive.proofs.Opened.{fitting, documents-are}
 use Rattle.archive_ranges.specs.declared.Range.the-variants.{Entries, Refused}
 use Rattle.archive_ranges.specs.Ranges.{Inside}
 use Rattle.model.specs.Lists.{part}
-use Rattle.model.specs.Queries.{pairsInto, listing}
+use Rattle.model.specs.Queries.{placedListing, placedInto}
 use Rattle.listing.proofs.Listed.{listing-le}
 use Rattle.listing.proofs.lists.list_of.Statement.{statement}
 use Rattle.listing.proofs.lists.list_of.Tie as tie
@@ -62,7 +62,7 @@ returns c =
     let e : g .range ≡ Entries a z = c .before .before .before .range .given .1 in
     let inside : (a ≤ z) × (z ≤ g .l .levels .entries) = subst (Inside (g .l .levels .entries)) e (s .pre .1) in
     let n = documents-are (g .archive .now) (g .l) (s .pre .0) in
-    rw (e, lt-ltb (length (g .answers .now)) (2 * contents (g .archive .now) .documents) (rw n (c .if1 .taken)))
+    rw (e, lt-ltb (length (g .answers .now)) (3 * contents (g .archive .now) .documents) (rw n (c .if1 .taken)))
 
 same-length : tie.Need-same-length
 same-length c = search needs
@@ -77,9 +77,9 @@ returns-2 c =
     let inside : (a ≤ z) × (z ≤ g .l .levels .entries) = subst (Inside (g .l .levels .entries)) e (s .pre .1) in
     let n = documents-are (g .archive .now) (g .l) (s .pre .0) in
     let k = c .before .before .list-in in
-    rw (e, le-ltb (length (g .answers .now)) (2 * contents (g .archive .now) .documents) (rw n (c .before .before .before .before .if1 .left)))
+    rw (e, le-ltb (length (g .answers .now)) (3 * contents (g .archive .now) .documents) (rw n (c .before .before .before .before .if1 .left)))
     ((λ i. record { outcome = answered (k .ensures .0 i); answers = k .ensures .1 i })
-    ∙ ap (λ (N : ℕ). pairsInto (g .answers .now) (answered (listing N (part a z (contents (g .archive .now) .entries))))) (sym n))
+    ∙ ap (λ (N : ℕ). placedInto (g .answers .now) (answered (placedListing N a (part a z (contents (g .archive .now) .entries))))) (sym n))
 
 returns-3 : tie.Need-returns-3
 returns-3 c =

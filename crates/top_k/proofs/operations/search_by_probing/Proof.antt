@@ -1,16 +1,14 @@
--- `search_by_probing`: by the cases of the question; no more than k pairs are listed, so that their number fits.
-use mathlib.Core.Path.{_≡_, sym, ap, _∙_, subst}
-use Prim.Native.Nat.{ℕ}
+-- `search_by_probing`: by the cases of the question.
 use native.Mathlib.Omega.{arith}
-use lib.ListN.{length, take, length-take}
-use Rattle.model.specs.Outcome.{answered, andThen}
-use Rattle.model.specs.Queries.{listing}
-use Rattle.model.specs.TopK.{ranking, SearchResult, foundInto}
-use Rattle.top_k.specs.declared.Query.{Query}
-use Rattle.search.specs.Searchable.{rangeOf}
-use Rattle.search.specs.Sought.{probingOf}
-use Rattle.top_k.specs.Asked.{askedIn, Ready}
+use mathlib.Core.Path.{sym, ap, _∙_, subst}
+use lib.ListN.{length}
 use borrow.Author.Needs.{needs}
+use Rattle.model.specs.Outcome.{answered, andThen}
+use Rattle.model.specs.TopK.{foundInto}
+use Rattle.search.specs.Sought.{probingOf}
+use Rattle.top_k.specs.declared.Query.{Query}
+use Rattle.top_k.specs.Asked.{askedIn, Ready}
+use Rattle.top_k.proofs.Placing.{probing-few, probing-ready, probing-placed}
 use Rattle.top_k.proofs.operations.search_by_probing.Statement.{statement}
 use Rattle.top_k.proofs.operations.search_by_probing.Tie as tie
 
@@ -23,19 +21,33 @@ enum-known-q-2 c = search needs
 probing-requires : tie.Need-probing-requires
 probing-requires c κs =
     let s = c .before .before .before .before .before .before .before .before in
-    subst (Ready (s .args .archive .now) (s .args .k) (length (s .args .answers .now)) (length (s .args .work .now))) (c .before .before .before .q2 .given .1) (s .pre)
+    let asked = c .before .before .before .q2 .given in
+    let ready = subst (Ready (s .args .archive .now) (s .args .k) (length (s .args .answers .now)) (length (s .args .work .now))) (asked .1) (s .pre) in
+    (ready .0, (omega (arith, ready .1 .0), ready .1 .1))
 
-answered-is : {m n : ℕ} → answered m ≡ answered n → m ≡ n
-answered-is e = cc
+put-first-places-requires : tie.Need-put-first-places-requires
+put-first-places-requires c κs =
+    let s = c .before .before .before .before .before .before .before .before .before .before .before .before .before .before in
+    let asked = c .before .before .before .before .before .before .before .before .before .q2 .given in
+    let ready = subst (Ready (s .args .archive .now) (s .args .k) (length (s .args .answers .now)) (length (s .args .work .now))) (asked .1) (s .pre) in
+    let found = c .before .before .before .before .before .probing in (
+      ready .0 .stored,
+      (
+        (ready .0 .ordered, ready .0 .inside),
+        probing-ready (s .args .archive .now) (asked .0 .0) (ready .0) (s .args .k) (s .args .answers .now) (s .args .work .now) (ready .1 .0) (found .result)
+            (found .last .1 .1 .1 .0) (found .last .1 .1 .1 .1 .0) (found .ensures),
+      ),
+    )
 
-cast-t14 : tie.Need-cast-t14
-cast-t14 c =
-    let s = c .before .before .before .before .before .before .before .before .before .before .before .before .before in
-    let x = c .before .before .before .before .before .before .before .before .q2 .given .0 .0 in
-    let full = ranking (listing (x .documents) (rangeOf (s .args .archive .now) x)) in
-    let said = ap (λ (r : SearchResult ℕ). r .outcome) (c .before .before .before .before .probing .ensures) in
-    let e : c .before .before .before .before .probing .result ≡ length (take (s .args .k) full) = answered-is said in
-    record { fits = omega (arith, length-take (s .args .k) full) }
+cast-t17 : tie.Need-cast-t17
+cast-t17 c =
+    let s = c .before .before .before .before .before .before .before .before .before .before .before .before .before .before .before .before .before in
+    let asked = c .before .before .before .before .before .before .before .before .before .before .before .before .q2 .given in
+    let ready = subst (Ready (s .args .archive .now) (s .args .k) (length (s .args .answers .now)) (length (s .args .work .now))) (asked .1) (s .pre) in
+    let found = c .before .before .before .before .before .before .before .before .probing in
+    let few = probing-few (s .args .archive .now) (asked .0 .0) (ready .0) (s .args .k) (s .args .answers .now) (s .args .work .now) (ready .1 .0) (found .result)
+    (found .last .1 .1 .1 .0) (found .last .1 .1 .1 .1 .0) (found .ensures) in
+    record { fits = omega (arith, few) }
 
 returns : tie.Need-returns
 returns c =
@@ -50,9 +62,14 @@ same-length-2 c = search needs
 
 returns-2 : tie.Need-returns-2
 returns-2 c =
-    let s = c .before .before .before .before .before .before .before .before .before .before .before .before .before in
-    c .before .before .before .before .probing .ensures
-    ∙ sym (ap (λ (q : Query). foundInto (s .args .answers .now) (s .args .work .now) (andThen (askedIn (s .args .archive .now) q) (λ x. answered (probingOf (s .args .k) x)))) (c .before .before .before .before .before .before .before .before .q2 .given .1))
+    let s = c .before .before .before .before .before .before .before .before .before .before .before .before .before .before .before .before .before in
+    let asked = c .before .before .before .before .before .before .before .before .before .before .before .before .q2 .given in
+    let ready = subst (Ready (s .args .archive .now) (s .args .k) (length (s .args .answers .now)) (length (s .args .work .now))) (asked .1) (s .pre) in
+    let found = c .before .before .before .before .before .before .before .before .probing in
+    let spread = c .before .before .put-first-places in
+    probing-placed (s .args .archive .now) (asked .0 .0) (ready .0) (s .args .k) (s .args .answers .now) (s .args .work .now) (ready .1 .0) (found .result)
+    (found .last .1 .1 .1 .0) (found .last .1 .1 .1 .1 .0) (found .ensures) (spread .last .1 .1 .1 .1 .1 .0) (spread .ensures)
+    ∙ sym (ap (λ (q : Query). foundInto (s .args .answers .now) (s .args .work .now) (andThen (askedIn (s .args .archive .now) q) (λ x. answered (probingOf (s .args .k) x)))) (asked .1))
 
 pub search-by-probing-spec : {M : Type 1} → statement M
 search-by-probing-spec =
@@ -61,7 +78,8 @@ search-by-probing-spec =
     enum-known-q
     enum-known-q-2
     probing-requires
-    cast-t14
+    put-first-places-requires
+    cast-t17
     returns
     same-length
     same-length-2
