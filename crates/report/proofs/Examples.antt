@@ -6,9 +6,9 @@ use Rattle.model.specs.Opening.{entriesAt, opening}
 use Rattle.model.specs.Cases.{smallArchive}
 use Rattle.report.specs.Report.{decimal, report}
 
--- '3 3', '0 2' and 'done 3', each with a line feed
+-- '3 3 0', '0 2 2' and 'done 3', each with a line feed
 case : report (littleEndian 0 ++ littleEndian 2 ++ littleEndian 2 ++ littleEndian 9 ++ smallArchive)
-    ≡ 51 ∷ 32 ∷ 51 ∷ 10 ∷ 48 ∷ 32 ∷ 50 ∷ 10 ∷ 100 ∷ 111 ∷ 110 ∷ 101 ∷ 32 ∷ 51 ∷ 10 ∷ []
+    ≡ 51 ∷ 32 ∷ 51 ∷ 32 ∷ 48 ∷ 10 ∷ 48 ∷ 32 ∷ 50 ∷ 32 ∷ 50 ∷ 10 ∷ 100 ∷ 111 ∷ 110 ∷ 101 ∷ 32 ∷ 51 ∷ 10 ∷ []
 unfolding bitsOf samplesRight unusedClear entriesAt opening decimal
 case = refl
 

@@ -1,104 +1,56 @@
--- Every report fits the output of 65,536 bytes that the program lends: at most 4,096 lines of 11 bytes, and a last one of 11.
-use Prim.Native.Nat.{ℕ, zero, suc, _+_, _-_, _*_, _/_, _%_, _^_, _≤_, _<_, min}
+-- Every report fits the output of 65,536 bytes that the program lends. A line with a count of one digit has at most 13 bytes; that is not so for
+-- every line, but the counts add up to no more than the entries of the range, so few of them have more digits.
+use Prim.Native.Nat.{ℕ, zero, suc, _+_, _-_, _^_, _≤_, _<_, min}
 use native.Mathlib.Omega.{arith}
-use native.Mathlib.Nat.{zero-add, add-zero, pow-succ', two-pow-succ}
+use native.Mathlib.Nat.{zero-add, add-zero, two-pow-succ}
 use mathlib.Core.Path.{_≡_, refl, _∙_}
 use mathlib.Core.Logic.{_⊎_, inl, inr}
-use mathlib.Core.List.{List, [], _∷_, _++_, map}
+use mathlib.Core.List.{List, [], _∷_, map}
 use mathlib.Core.Bool.{Bool, true, false, not, cond, _&&_, _||_}
 use lib.ListN.{length, drop, length-append, length-map, length-take, length-drop}
 use lib.Pow.{pow-mono}
 use lib.Seq.{take-all}
 use lib.Dec.{leb, ltb, eqb}
-use borrow.Author.Tests.{leb-false, ltb-true, lt-ltb}
+use borrow.Author.Tests.{leb-false, lt-ltb}
 use Rattle.bits.specs.Sequences.{all, upFrom, below}
 use Rattle.bits.specs.Bits.{concat, samplesRight, unusedClear, numberAt}
-use Rattle.bits.proofs.Tests.{look, and-both, both-and}
+use Rattle.bits.proofs.Tests.{look, and-both}
+use Rattle.bits.proofs.Sequences.{select-le}
 use Rattle.bits.proofs.Tally.{tally-le, tally-le-length, tally-map, length-upFrom}
 use Rattle.model.specs.Lists.{any, part, overwrite, Every}
 use Rattle.model.specs.Outcome.{Outcome, answered, refused, refuse, andThen}
 use Rattle.model.specs.Rows.{height}
 use Rattle.model.specs.Format.{Library, Sizes, withinLimits, rowCount, archiveLength}
 use Rattle.model.specs.Opening.{sizesAt, samplesAt, rowAt, entriesAt, contents, pairsHold, tableHolds, opening}
-use Rattle.model.specs.Queries.{Pair, Bounds, termStart, pairOf, present, listing}
-use Rattle.model.specs.TopK.{node, innerNodes, needed, last, ranking, fullList, need, covered, Answer, done, spent, topK}
+use Rattle.model.specs.Queries.{Pair, Bounds, termStart, pairOf, present, listing, firstPlace, flatPlaced}
+use Rattle.model.specs.TopK.{node, innerNodes, needed, last, ranking, fullList, need, covered, done, spent, topK, Ended, Found, foundOf, withPlaces}
 use Rattle.model.proofs.Height.{height-le-12}
 use Rattle.model.proofs.Lists.{tally-keep}
-use Rattle.model.proofs.Sorting.{every-head, every-tail, every-cons, every-take}
+use Rattle.model.proofs.Sums.{sum-take-le}
+use Rattle.model.proofs.Sorting.{every-cons, every-take}
 use Rattle.model.proofs.Ranking.{ranking-same}
 use Rattle.archive.specs.Layout.{layoutOf, Opened}
-use Rattle.archive.proofs.Opened.{limits, documents-are, entries-size}
+use Rattle.archive.proofs.Opened.{limits, documents-are, entries-size, lengths-total}
 use Rattle.model.proofs.Listed.{length-full}
 use Rattle.top_k.proofs.Demand3.FullList.{longest-covered}
-use Rattle.report.specs.Report.{digitsOf, decimal, lineOf, linesOf, lastLine, doneWord, spentWord, refusedWord, answerTo, shortlistOf, textOf, report, shown, written}
+use Rattle.report.specs.Report.{linesOf, lastLine, doneWord, spentWord, refusedWord, answerTo, shortlistOf, textOf, report, shown, written}
+use Rattle.report.proofs.Entries.{entriesOf, entries-take, entries-full}
+use Rattle.report.proofs.Lengths.{short, length-lines, length-last}
 
--- ---- numbers and lines
-
--- a number below 10 ^ (k + 1) has at most k + 1 digits
-length-digits : (fuel n k : ℕ) → n < 10 ^ suc k → length (digitsOf fuel n) ≤ suc k
-length-digits zero n k l = omega arith
-length-digits (suc fuel) n zero l = let small : n < 10 = rw (pow-succ' 10 0) at l in rw (lt-ltb n 10 small) (omega arith)
-length-digits (suc fuel) n (suc k) l =
-    let low : n < 10 * 10 ^ suc k = rw (pow-succ' 10 (suc k)) at l in
-    go (ltb n 10) (length-digits fuel (n / 10) k (omega arith))
-  where
-    final : List ℕ
-    final = (48 + n % 10) ∷ []
-
-    go : (b : Bool) → length (digitsOf fuel (n / 10)) ≤ suc k → length (cond b ((48 + n) ∷ []) (digitsOf fuel (n / 10) ++ final)) ≤ suc (suc k)
-    go true i = omega arith
-    go false i = omega (arith, length-append (digitsOf fuel (n / 10)) final)
-
-length-decimal : (n k : ℕ) → n < 10 ^ suc k → length (decimal n) ≤ suc k
-unfolding decimal
-length-decimal n k l = length-digits (suc n) n k l
-
--- a document of at most four digits and a count of at most five
-abbrev short : Pair → Bool
-short p = ltb (p .document) 10000 && ltb (p .count) 100000
-
-length-line : (p : Pair) → short p ≡ true → length (lineOf p) ≤ 11
-length-line p e =
-    let t = and-both (ltb (p .document) 10000) (ltb (p .count) 100000) e in
-    simp length-append
-    (omega (
-      arith,
-      length-decimal (p .document) 3 (ltb-true (p .document) 10000 (t .0)),
-      length-decimal (p .count) 4 (ltb-true (p .count) 100000 (t .1)),
-    ))
-
-length-lines : (ps : List Pair) → Every short ps → length (linesOf ps) ≤ 11 * length ps
-length-lines [] e = omega arith
-length-lines (p ∷ ps) e =
-    omega (
-      arith,
-      length-append (lineOf p) (linesOf ps),
-      length-line p (every-head short p ps e),
-      length-lines ps (every-tail short p ps e),
-    )
-
-length-last : (word : List ℕ) (n k : ℕ) → n < 10 ^ suc k → length (lastLine word n) ≤ length word + k + 2
-length-last word n k l = simp length-append (omega (arith, length-decimal n k l))
-
--- ---- the pairs listed
+-- ---- the documents listed
 
 every-upFrom : (p : ℕ → Bool) (s n : ℕ) → ((d : ℕ) → d < s + n → p d ≡ true) → Every p (upFrom s n)
 every-upFrom p s zero h = refl
 every-upFrom p s (suc n) h = every-cons p s (upFrom (suc s) n) (h s (omega arith)) (every-upFrom p (suc s) n (λ d l. h d (omega arith)))
 
-full-short : (N k : ℕ) (xs : List ℕ) → N ≤ 4096 → length xs ≤ 65535 → Every short (fullList N k xs)
-full-short N k xs documents entries = every-take short k (ranking (listing N xs)) (ranking-same (listing N xs) long ∙ listed)
+full-short : (N k : ℕ) (xs : List ℕ) → N ≤ 4096 → Every short (fullList N k xs)
+full-short N k xs documents = every-take short k (ranking (listing N xs)) (ranking-same (listing N xs) long ∙ listed)
   where
     long : Pair → Bool
     long p = not (short p)
 
     pairs : List Pair
     pairs = map (pairOf xs) (below N)
-
-    each : (d : ℕ) → d < 0 + N → short (pairOf xs d) ≡ true
-    each d l =
-        both-and (ltb d 10000) (ltb (pairOf xs d .count) 100000) (lt-ltb d 10000 (omega arith))
-        (lt-ltb (pairOf xs d .count) 100000 (omega (arith, tally-le-length (eqb d) xs)))
 
     listed : Every short (listing N xs)
     listed =
@@ -107,7 +59,7 @@ full-short N k xs documents entries = every-take short k (ranking (listing N xs)
           tally-keep long present pairs,
           tally-le (λ p. present p && long p) long (λ p e. and-both (present p) (long p) e .1) pairs,
           tally-map long (pairOf xs) (below N),
-          every-upFrom (λ d. short (pairOf xs d)) 0 N each,
+          every-upFrom (λ d. short (pairOf xs d)) 0 N (λ d l. lt-ltb d 10000 (omega arith)),
         )
 
 -- ---- the openings
@@ -132,9 +84,10 @@ need-lt h xs ps = omega (arith, rw (zero-add h) at (length-inner h 0 h), go ps)
 
 -- ---- the text of an answer
 
--- at most 4,096 lines of 11 bytes, and a last one of 11
-length-answer : (N : ℕ) (xs : List ℕ) (k allowance : ℕ) → N ≤ 4096 → length xs ≤ 65535 → length (textOf (answered (topK (height N) N xs k allowance))) ≤ 45067
-length-answer N xs k allowance documents entries = go (look (leb cost allowance))
+-- at most 4,096 lines of 13 bytes, 6,553 more for counts of two digits and more, and a last line of 11
+length-answer : (N : ℕ) (xs : List ℕ) (k allowance : ℕ) (place : ℕ → ℕ) → N ≤ 4096 → length xs ≤ 65535 → ((d : ℕ) → place d < 100000)
+    → length (textOf (answered (foundOf (flatPlaced place) N (topK (height N) N xs k allowance)))) ≤ 59812
+length-answer N xs k allowance place documents entries low = go (look (leb cost allowance))
   where
     h : ℕ
     h = height N
@@ -152,26 +105,29 @@ length-answer N xs k allowance documents entries = go (look (leb cost allowance)
     cheap = let p : 2 ^ h ≤ 2 ^ 12 = pow-mono (height-le-12 N documents) in omega (arith, need-lt h xs full)
 
     go : (leb cost allowance ≡ true) ⊎ (leb cost allowance ≡ false)
-        → length (textOf (answered (cond (leb cost allowance) (done full cost) (spent front allowance)))) ≤ 45067
+        → length (textOf (answered (foundOf (flatPlaced place) N (cond (leb cost allowance) (done full cost) (spent front allowance))))) ≤ 59812
     go (inl e) =
         rw e
         (omega (
           arith,
-          length-append (linesOf full) (lastLine doneWord cost),
-          length-lines full (full-short N k xs documents entries),
+          length-append (linesOf (flatPlaced place full)) (lastLine doneWord cost),
+          length-lines place low full (full-short N k xs documents),
           length-full N k xs,
+          entries-full xs N k,
           length-last doneWord cost 3 cheap,
         ))
     go (inr e) =
         let cut = longest-covered h xs allowance full (length full) in
-        let shorts : Every short front = rw (cut .is) (every-take short (cut .size) full (full-short N k xs documents entries)) in
+        let shorts : Every short front = rw (cut .is) (every-take short (cut .size) full (full-short N k xs documents)) in
         let few : length front ≤ length full = rw (cut .is) (omega (arith, length-take (cut .size) full)) in
+        let sparse : entriesOf front ≤ entriesOf full = rw (cut .is) (entries-take (cut .size) full) in
         rw e
         (omega (
           arith,
-          length-append (linesOf front) (lastLine spentWord allowance),
-          length-lines front shorts,
+          length-append (linesOf (flatPlaced place front)) (lastLine spentWord allowance),
+          length-lines place low front shorts,
           length-full N k xs,
+          entries-full xs N k,
           length-last spentWord allowance 3 (omega (arith, leb-false cost allowance e, cheap)),
         ))
 
@@ -211,10 +167,10 @@ opening-few bytes =
 
 -- ---- the report
 
-length-refused : (number : ℕ) → number < 100 → length (textOf (refused number)) ≤ 45067
+length-refused : (number : ℕ) → number < 100 → length (textOf (refused number)) ≤ 59812
 length-refused number l = omega (arith, length-last refusedWord number 1 l)
 
-length-text : (bytes : List ℕ) (f l k allowance : ℕ) → length (textOf (shortlistOf bytes f l k allowance)) ≤ 45067
+length-text : (bytes : List ℕ) (f l k allowance : ℕ) → length (textOf (shortlistOf bytes f l k allowance)) ≤ 59812
 length-text bytes f l k allowance = from (opening bytes) refl (opening-few bytes)
   where
     lib : Library
@@ -223,29 +179,36 @@ length-text bytes f l k allowance = from (opening bytes) refl (opening-few bytes
     N : ℕ
     N = lib .documents
 
+    start : ℕ
+    start = termStart lib f
+
     range : List ℕ
-    range = part (termStart lib f) (termStart lib (suc l)) (lib .entries)
+    range = part start (termStart lib (suc l)) (lib .entries)
 
     bounds : Outcome Bounds
-    bounds = answered (record { from = termStart lib f; to = termStart lib (suc l) })
+    bounds = answered (record { from = start; to = termStart lib (suc l) })
 
-    answer : List ℕ → Outcome Answer
-    answer xs = answered (topK (height N) N xs k allowance)
+    answer : Bounds → Outcome (Found Ended)
+    answer r =
+        let xs = part (r .from) (r .to) (lib .entries) in
+        answered (foundOf (withPlaces (r .from) xs) N (topK (height N) N xs k allowance))
 
-    inside : N ≤ 4096 → length range ≤ 65535 → (b : Bool)
-        → length (textOf (andThen (andThen (refuse 11 b bounds) (λ r. answered (part (r .from) (r .to) (lib .entries)))) answer)) ≤ 45067
+    inside : N ≤ 4096 → start + length range ≤ 65535 → (b : Bool) → length (textOf (andThen (refuse 11 b bounds) answer)) ≤ 59812
     inside m n true = length-refused 11 (omega arith)
-    inside m n false = length-answer N range k allowance m n
+    inside m n false =
+        length-answer N range k allowance (firstPlace start range) m (omega arith) (λ d. omega (arith, select-le d range 1))
 
-    from : (o : Outcome Sizes) → opening bytes ≡ o → Few o → length (textOf (shortlistOf bytes f l k allowance)) ≤ 45067
+    from : (o : Outcome Sizes) → opening bytes ≡ o → Few o → length (textOf (shortlistOf bytes f l k allowance)) ≤ 59812
     from (answered s) e few =
         let o : Opened bytes (layoutOf s) = record { accepted = e; shape = refl } in
         let m : N ≤ 4096 = omega (arith, documents-are bytes (layoutOf s) o, limits bytes (layoutOf s) o .documents) in
-        let n : length range ≤ 65535 =
+        let n : start + length range ≤ 65535 =
         omega (
           arith,
-          length-take (termStart lib (suc l) - termStart lib f) (drop (termStart lib f) (lib .entries)),
-          length-drop (termStart lib f) (lib .entries),
+          length-take (termStart lib (suc l) - start) (drop start (lib .entries)),
+          length-drop start (lib .entries),
+          sum-take-le (lib .lengths) f,
+          lengths-total bytes (layoutOf s) o,
           entries-size bytes (layoutOf s) o,
           limits bytes (layoutOf s) o .entries,
         )
@@ -254,10 +217,10 @@ length-text bytes f l k allowance = from (opening bytes) refl (opening-few bytes
     from (refused number) e few = rw e (length-refused number few)
 
 -- for every input
-pub length-report : (input : List ℕ) → length (report input) ≤ 45067
+pub length-report : (input : List ℕ) → length (report input) ≤ 59812
 length-report input = go (ltb 65536 (length input)) (ltb (length input) 56)
   where
-    go : (b c : Bool) → length (cond b (lastLine refusedWord 0) (cond c (lastLine refusedWord 1) (textOf (answerTo input)))) ≤ 45067
+    go : (b c : Bool) → length (cond b (lastLine refusedWord 0) (cond c (lastLine refusedWord 1) (textOf (answerTo input)))) ≤ 59812
     go true c = length-refused 0 (omega arith)
     go false true = length-refused 1 (omega arith)
     go false false = length-text (drop 16 input) (numberAt input 0) (numberAt input 4) (numberAt input 8) (numberAt input 12)

@@ -2,5 +2,7 @@
 pub mod Typing
 pub mod Decimals
 pub mod Reported
+pub mod Entries
+pub mod Lengths
 pub mod Fits
 pub mod Examples

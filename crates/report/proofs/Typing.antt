@@ -1,15 +1,14 @@
 -- Text that is written in parts is written whole.
-use Prim.Native.Nat.{ℕ, suc, _+_, _≤_, _<_, min}
+use Prim.Native.Nat.{ℕ, zero, suc, _+_, _*_, _≤_, _<_, min}
 use native.Mathlib.Omega.{arith}
 use native.Mathlib.Nat.{add-zero}
 use mathlib.Core.Path.{_≡_, refl, sym, ap, _∙_}
 use mathlib.Core.Logic.{_⊎_, inl, inr}
 use mathlib.Core.List.{List, [], _∷_, _++_, append-nil, append-assoc}
-use lib.ListN.{length, take, set, length-set, length-append}
+use lib.ListN.{length, getD, take, set, length-set, length-append}
 use lib.Seq.{take-length, set-out, set-at}
 use Rattle.bits.proofs.Tests.{le-or-lt}
 use Rattle.model.specs.Lists.{overwrite}
-use Rattle.model.specs.Queries.{Pair}
 use Rattle.report.specs.Report.{lineOf, linesOf, shown}
 use Rattle.report.specs.Types.{typed, Types}
 
@@ -64,6 +63,19 @@ types-shown {t} {r} {before} {after} x =
     λ i. record { size = size i; output = output i }
 
 -- a line more
-pub lines-snoc : (ps : List Pair) (p : Pair) → linesOf (ps ++ p ∷ []) ≡ linesOf ps ++ lineOf p
-lines-snoc [] p = append-nil (lineOf p)
-lines-snoc (q ∷ ps) p = ap (λ (t : List ℕ). lineOf q ++ t) (lines-snoc ps p) ∙ sym (append-assoc (lineOf q) (linesOf ps) (lineOf p))
+pub lines-suc : (i : ℕ) (out : List ℕ) → 3 * suc i ≤ length out
+    → linesOf (take (3 * suc i) out) ≡ linesOf (take (3 * i) out) ++ lineOf (getD out (3 * i) 0) (getD out (3 * i + 1) 0) (getD out (3 * i + 2) 0)
+lines-suc i [] l = absurd (omega arith)
+lines-suc i (a ∷ []) l = absurd (omega arith)
+lines-suc i (a ∷ b ∷ []) l = absurd (omega arith)
+lines-suc zero (a ∷ b ∷ c ∷ out) l = append-nil (lineOf a b c)
+lines-suc (suc i) (a ∷ b ∷ c ∷ out) l =
+    let numbers : List ℕ = a ∷ b ∷ c ∷ out in
+    let end : 3 * suc (suc i) ≡ suc (suc (suc (3 * suc i))) = omega arith in
+    let first : suc (suc (suc (3 * i))) ≡ 3 * suc i = omega arith in
+    let second : suc (suc (suc (3 * i + 1))) ≡ 3 * suc i + 1 = omega arith in
+    let third : suc (suc (suc (3 * i + 2))) ≡ 3 * suc i + 2 = omega arith in
+    ap (λ (n : ℕ). linesOf (take n numbers)) end
+    ∙ ap (λ (t : List ℕ). lineOf a b c ++ t) (lines-suc i out (omega arith))
+    ∙ sym (append-assoc (lineOf a b c) (linesOf (take (3 * i) out)) (lineOf (getD out (3 * i) 0) (getD out (3 * i + 1) 0) (getD out (3 * i + 2) 0)))
+    ∙ (λ j. linesOf (take (first j) numbers) ++ lineOf (getD numbers (first j) 0) (getD numbers (second j) 0) (getD numbers (third j) 0))

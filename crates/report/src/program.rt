@@ -5,26 +5,26 @@ use bit_rows::number;
 use moves::TopK;
 use top_k::greedy_terms;
 ghost use mathlib.Core.Path.{_≡_};
-ghost use Prim.Native.Nat.{_≤_};
-ghost use lib.ListN.{length};
-ghost use Rattle.model.specs.Queries.{pairsIn};
+ghost use Prim.Native.Nat.{_*_, _≤_};
+ghost use lib.ListN.{length, take};
 ghost use Rattle.moves.specs.Results.{topKOf};
 ghost use Rattle.report.specs.Report.{linesOf, answerTo, textOf, report, shown, written};
 ghost use Rattle.io.specs.Counts.{Counts};
 ghost use Rattle.report.specs.Types.{Types, textIn, Listed};
 
-// A line for each of the first n pairs.
-fn put_pairs(output: &mut [u8], answers: &[u32], n: usize) -> usize
-    requires { ⌜ (n ≤ 4096) × (8192 ≤ length (now answers)) ⌝ }
-    ensures { λ r. ⌜ Types (linesOf (pairsIn (now (answers .entry)) n)) 0 (now (output .entry)) r (now (output .exit)) ⌝ }
+// A line for each of the first n documents, from the three numbers that each has in the answer slice.
+fn put_lines(output: &mut [u8], answers: &[u32], n: usize) -> usize
+    requires { ⌜ (n ≤ 4096) × (12288 ≤ length (now answers)) ⌝ }
+    ensures { λ r. ⌜ Types (linesOf (take (3 * n) (now (answers .entry)))) 0 (now (output .entry)) r (now (output .exit)) ⌝ }
 {
     let mut at: usize = 0;
     let mut i: usize = 0;
     while i < n {
-        let first = 2 * i;
+        let first = 3 * i;
         let document = answers[first];
         let count = answers[first + 1];
-        at = put_line(output, at, document, count);
+        let place = answers[first + 2];
+        at = put_line(output, at, document, count, place);
         i += 1;
     }
     at
@@ -32,16 +32,16 @@ fn put_pairs(output: &mut [u8], answers: &[u32], n: usize) -> usize
 
 fn put_answer(output: &mut [u8], answers: &[u32], r: TopK) -> usize
     requires { ⌜ Listed (topKOf r) ⌝ }
-    requires { ⌜ 8192 ≤ length (now answers) ⌝ }
+    requires { ⌜ 12288 ≤ length (now answers) ⌝ }
     ensures { λ n. ⌜ Types (textIn (topKOf r) (now (answers .entry))) 0 (now (output .entry)) n (now (output .exit)) ⌝ }
 {
     match r {
         TopK::Done { listed, openings } => {
-            let at = put_pairs(output, answers, listed as usize);
+            let at = put_lines(output, answers, listed as usize);
             put_last(output, at, b"done ", openings)
         }
         TopK::Spent { listed, allowance } => {
-            let at = put_pairs(output, answers, listed as usize);
+            let at = put_lines(output, answers, listed as usize);
             put_last(output, at, b"spent ", allowance)
         }
         TopK::Refused(number) => put_last(output, 0, b"refused ", number),
@@ -51,7 +51,7 @@ fn put_answer(output: &mut [u8], answers: &[u32], r: TopK) -> usize
 // The shortlist of an input of 16 bytes or more, with room for the answers of any archive.
 fn put_shortlist(input: &[u8], output: &mut [u8], answers: &mut [u32], work: &mut [u32]) -> usize
     requires { ⌜ 16 ≤ length (now input) ⌝ }
-    requires { ⌜ (8192 ≤ length (now answers)) × (16384 ≤ length (now work)) ⌝ }
+    requires { ⌜ (12288 ≤ length (now answers)) × (16384 ≤ length (now work)) ⌝ }
     ensures { λ r. ⌜ Types (textOf (answerTo (now (input .entry)))) 0 (now (output .entry)) r (now (output .exit)) ⌝ }
 {
     let f = number(input, 0) as u32;
@@ -67,7 +67,7 @@ fn put_report(input: &[u8], output: &mut [u8]) -> usize
     requires { ⌜ 16 ≤ length (now input) ⌝ }
     ensures { λ r. ⌜ Types (textOf (answerTo (now (input .entry)))) 0 (now (output .entry)) r (now (output .exit)) ⌝ }
 {
-    let mut answers = [0u32; 8192];
+    let mut answers = [0u32; 12288];
     let mut work = [0u32; 16384];
     put_shortlist(input, output, &mut answers, &mut work)
 }

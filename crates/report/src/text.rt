@@ -1,8 +1,8 @@
 // Text into a slice from a place on, as far as the slice has room; each function answers the next place.
-ghost use mathlib.Core.List.{[], _∷_, _++_};
+ghost use mathlib.Core.List.{[], _∷_};
 ghost use Prim.Native.Nat.{_≤_};
 ghost use lib.ListN.{length};
-ghost use Rattle.report.specs.Report.{decimal, lastLine};
+ghost use Rattle.report.specs.Report.{decimal, lineOf, lastLine};
 ghost use Rattle.report.specs.Types.{Types};
 
 fn put_byte(output: &mut [u8], at: usize, byte: u8) -> usize
@@ -39,14 +39,23 @@ fn put_decimal(output: &mut [u8], at: usize, x: u32) -> usize
     put_text(output, at, &digits[..n])
 }
 
-// A document and its count.
-pub fn put_line(output: &mut [u8], at: usize, document: u32, count: u32) -> usize
+// A space and a number.
+fn put_field(output: &mut [u8], at: usize, x: u32) -> usize
     requires { ⌜ at ≤ length (now output) ⌝ }
-    ensures { λ r. ⌜ Types (decimal document ++ 32 ∷ decimal count ++ 10 ∷ []) at (now (output .entry)) r (now (output .exit)) ⌝ }
+    ensures { λ r. ⌜ Types (32 ∷ decimal x) at (now (output .entry)) r (now (output .exit)) ⌝ }
+{
+    let first = put_byte(output, at, b' ');
+    put_decimal(output, first, x)
+}
+
+// A document, its count and its first place.
+pub fn put_line(output: &mut [u8], at: usize, document: u32, count: u32, place: u32) -> usize
+    requires { ⌜ at ≤ length (now output) ⌝ }
+    ensures { λ r. ⌜ Types (lineOf document count place) at (now (output .entry)) r (now (output .exit)) ⌝ }
 {
     let first = put_decimal(output, at, document);
-    let second = put_byte(output, first, b' ');
-    let third = put_decimal(output, second, count);
+    let second = put_field(output, first, count);
+    let third = put_field(output, second, place);
     put_byte(output, third, b'\n')
 }
 

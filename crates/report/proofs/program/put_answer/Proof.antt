@@ -11,11 +11,11 @@ use Rattle.report.proofs.program.put_answer.Tie as tie
 enum-known-r : tie.Need-enum-known-r
 enum-known-r c = search needs
 
-cast-put-pairs : tie.Need-cast-put-pairs
-cast-put-pairs c = search needs
+cast-put-lines : tie.Need-cast-put-lines
+cast-put-lines c = search needs
 
-put-pairs-requires : tie.Need-put-pairs-requires
-put-pairs-requires c κs = let s = c .before .before .before .before .before .before in (subst (λ (x : TopK). Listed (topKOf x)) (c .before .before .r .given .1) (s .pre .0), s .pre .1)
+put-lines-requires : tie.Need-put-lines-requires
+put-lines-requires c κs = let s = c .before .before .before .before .before .before in (subst (λ (x : TopK). Listed (topKOf x)) (c .before .before .r .given .1) (s .pre .0), s .pre .1)
 
 slice-aggregate-put-last : tie.Need-slice-aggregate-put-last
 slice-aggregate-put-last c = search needs
@@ -26,11 +26,11 @@ put-last-requires c κs = search needs
 enum-known-r-2 : tie.Need-enum-known-r-2
 enum-known-r-2 c = search needs
 
-cast-put-pairs-2 : tie.Need-cast-put-pairs-2
-cast-put-pairs-2 c = search needs
+cast-put-lines-2 : tie.Need-cast-put-lines-2
+cast-put-lines-2 c = search needs
 
-put-pairs-requires-2 : tie.Need-put-pairs-requires-2
-put-pairs-requires-2 c κs = let s = c .before .before .before .before .before .before in (subst (λ (x : TopK). Listed (topKOf x)) (c .before .before .r2 .given .1) (s .pre .0), s .pre .1)
+put-lines-requires-2 : tie.Need-put-lines-requires-2
+put-lines-requires-2 c κs = let s = c .before .before .before .before .before .before in (subst (λ (x : TopK). Listed (topKOf x)) (c .before .before .r2 .given .1) (s .pre .0), s .pre .1)
 
 slice-aggregate-put-last-2 : tie.Need-slice-aggregate-put-last-2
 slice-aggregate-put-last-2 c = search needs
@@ -54,7 +54,7 @@ returns : tie.Need-returns
 returns c =
     let s = c .before .before .before .before .before .before .before .before .before .before .before .before .before .before in
     let put = c .before .before .put-last in
-    subst (λ (x : TopK). Types (textIn (topKOf x) (s .args .answers .now)) 0 (s .args .output .now) (put .result) (put .last .0)) (sym (c .before .before .before .before .before .before .before .before .before .before .r .given .1)) (types-append (c .before .before .before .before .before .before .before .put-pairs .ensures) (put .ensures))
+    subst (λ (x : TopK). Types (textIn (topKOf x) (s .args .answers .now)) 0 (s .args .output .now) (put .result) (put .last .0)) (sym (c .before .before .before .before .before .before .before .before .before .before .r .given .1)) (types-append (c .before .before .before .before .before .before .before .put-lines .ensures) (put .ensures))
 
 same-length-2 : tie.Need-same-length-2
 same-length-2 c = search needs
@@ -63,7 +63,7 @@ returns-2 : tie.Need-returns-2
 returns-2 c =
     let s = c .before .before .before .before .before .before .before .before .before .before .before .before .before .before in
     let put = c .before .before .put-last2 in
-    subst (λ (x : TopK). Types (textIn (topKOf x) (s .args .answers .now)) 0 (s .args .output .now) (put .result) (put .last .0)) (sym (c .before .before .before .before .before .before .before .before .before .before .r2 .given .1)) (types-append (c .before .before .before .before .before .before .before .put-pairs2 .ensures) (put .ensures))
+    subst (λ (x : TopK). Types (textIn (topKOf x) (s .args .answers .now)) 0 (s .args .output .now) (put .result) (put .last .0)) (sym (c .before .before .before .before .before .before .before .before .before .before .r2 .given .1)) (types-append (c .before .before .before .before .before .before .before .put-lines2 .ensures) (put .ensures))
 
 same-length-3 : tie.Need-same-length-3
 same-length-3 c = search needs
@@ -79,13 +79,13 @@ put-answer-spec =
     tie.close
     (tie.spec
     enum-known-r
-    cast-put-pairs
-    put-pairs-requires
+    cast-put-lines
+    put-lines-requires
     slice-aggregate-put-last
     put-last-requires
     enum-known-r-2
-    cast-put-pairs-2
-    put-pairs-requires-2
+    cast-put-lines-2
+    put-lines-requires-2
     slice-aggregate-put-last-2
     put-last-requires-2
     enum-known-r-3

@@ -1,20 +1,19 @@
--- `put_pairs`: the lines of the first pairs are written so far.
-use Prim.Native.Nat.{ℕ, _-_, _≤_}
+-- `put_lines`: the lines of the first documents are written so far.
+use Prim.Native.Nat.{ℕ, _-_, _*_, _≤_}
 use native.Mathlib.Omega.{arith}
 use native.Mathlib.Numerals.{add-one}
 use mathlib.Core.Path.{_≡_, sym, ap, _∙_, subst}
 use mathlib.Core.List.{List}
+use lib.ListN.{take}
 use borrow.Author.Needs.{needs}
-use Rattle.model.specs.Queries.{pairAt, pairsIn}
-use Rattle.model.proofs.Pairs.{pairs-suc}
 use Rattle.report.specs.Report.{linesOf}
 use Rattle.report.specs.Types.{Types}
-use Rattle.report.proofs.Typing.{types-nil, types-append, lines-snoc}
-use Rattle.report.proofs.program.put_pairs.Statement.{statement}
-use Rattle.report.proofs.program.put_pairs.Tie as tie
+use Rattle.report.proofs.Typing.{types-nil, types-append, lines-suc}
+use Rattle.report.proofs.program.put_lines.Statement.{statement}
+use Rattle.report.proofs.program.put_lines.Tie as tie
 
 abbrev Inv-loop : tie.InvT-loop
-Inv-loop output₀ answers n at₀ i₀ output at i = (i ≤ n) × Types (linesOf (pairsIn answers i)) 0 output₀ at output
+Inv-loop output₀ answers n at₀ i₀ output at i = (i ≤ n) × Types (linesOf (take (3 * i) answers)) 0 output₀ at output
 
 abbrev μ-loop : tie.MeasureT-loop
 μ-loop output₀ answers n at₀ i₀ output at i = n - i
@@ -40,6 +39,15 @@ mul-count c = search needs
 shared-slice-read-count : tie.Need-shared-slice-read-count Inv-loop μ-loop
 shared-slice-read-count c = search needs
 
+add-place : tie.Need-add-place Inv-loop μ-loop
+add-place c = search needs
+
+mul-place : tie.Need-mul-place Inv-loop μ-loop
+mul-place c = search needs
+
+shared-slice-read-place : tie.Need-shared-slice-read-place Inv-loop μ-loop
+shared-slice-read-place c = search needs
+
 put-line-requires : tie.Need-put-line-requires Inv-loop μ-loop
 put-line-requires c κs = search needs
 
@@ -51,10 +59,11 @@ loop-less c = search needs
 
 loop-again : tie.Need-loop-again Inv-loop μ-loop
 loop-again c =
-    let l = c .before .before .before .before .before .before .before .loop in
-    let s = c .before .before .before .before .before .before .before .before .before .before .args in
+    let l = c .before .before .before .before .before .before .before .before .loop in
+    let s = c .before .before .before .before .before .before .before .before .before .before .before .args in
     let put = c .before .before .put-line in
-    let e = ap linesOf (ap (pairsIn (s .answers .now)) (add-one (l .i)) ∙ pairs-suc (s .answers .now) (l .i)) ∙ lines-snoc (pairsIn (s .answers .now) (l .i)) (pairAt (s .answers .now) (l .i)) in (
+    let numbers = s .answers .now in
+    let e = ap (λ (n : ℕ). linesOf (take (3 * n) numbers)) (add-one (l .i)) ∙ lines-suc (l .i) numbers (omega arith) in (
       omega arith,
       subst (λ (text : List ℕ). Types text 0 (s .output .now) (put .result) (put .last .0)) (sym e) (types-append (l .inv .1) (put .ensures)),
     )
@@ -67,10 +76,10 @@ returns c =
     let l = c .before .loop in
     let s = c .before .before .before .before .args in
     let e : l .i ≡ s .n = omega arith in
-    subst (λ (k : ℕ). Types (linesOf (pairsIn (s .answers .now) k)) 0 (s .output .now) (l .at) (l .output)) e (l .inv .1)
+    subst (λ (k : ℕ). Types (linesOf (take (3 * k) (s .answers .now))) 0 (s .output .now) (l .at) (l .output)) e (l .inv .1)
 
-pub put-pairs-spec : {M : Type 1} → statement M
-put-pairs-spec =
+pub put-lines-spec : {M : Type 1} → statement M
+put-lines-spec =
     tie.close
     (tie.spec
     Inv-loop
@@ -82,6 +91,9 @@ put-pairs-spec =
     add-count
     mul-count
     shared-slice-read-count
+    add-place
+    mul-place
+    shared-slice-read-place
     put-line-requires
     add-i
     loop-less
