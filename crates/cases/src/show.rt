@@ -116,7 +116,7 @@ pub fn top_k(found: TopK) {
 
 pub fn probed(found: Probed) {
     match found {
-        Probed::Pairs(listed) => number(listed),
+        Probed::Listed(listed) => number(listed),
         Probed::Refused(x) => refused(x),
     }
 }

@@ -86,7 +86,7 @@ fn write_and_ask(
     );
 }
 
-// The kind of question number i: of a number more often than of pairs.
+// The kind of question number i: of a number more often than of documents.
 fn kind_of(i: u32) -> u32 {
     let k = i % 33;
     if k < 14 {

@@ -8,6 +8,7 @@ pub mod numbers;
 pub mod orders;
 pub mod outcome;
 pub mod pairs;
+mod places;
 mod postfix;
 pub mod rate;
 mod reading;

@@ -108,7 +108,7 @@ pub fn weighted(
     let mut asked = [0u32; 4096];
     let mut keys = [0u32; 4096];
     let mut nodes = [0u32; 4096];
-    let judged = with_room(judged_terms(numbers, size, l.terms), l, q);
+    let judged = with_room(judged_terms(numbers, size, l.terms), l, q, 2);
     if judged.what == REFUSED {
         return judged;
     }

@@ -1,4 +1,4 @@
-// Questions for pairs: listings, and conjunctions of one to eight terms.
+// Listings, three numbers a document, and conjunctions of one to eight terms, two a document.
 use crate::differences::compare;
 use crate::numbers::answered;
 use crate::random::below;
@@ -17,6 +17,7 @@ use slices::least;
 use slices::minus;
 use slices::plus;
 use slices::same;
+use slices::times;
 
 // Lists with the first so many numbers of the answers lent.
 fn list_into(archive: &[u8], q: Question, answers: &mut [u32]) -> Outcome {
@@ -41,7 +42,7 @@ fn drawn(kind: u32, l: Sizes, seed: u32) -> Question {
         b: e.last,
         c: 0,
         d: 0,
-        answers: room(draw(seed, 2), plus(l.documents, l.documents)),
+        answers: room(draw(seed, 2), times(l.documents, 3)),
         work: 0,
     }
 }
@@ -56,8 +57,8 @@ pub fn list(
     made: &mut [u32; 64],
 ) {
     let junk = draw(seed, 1);
-    let mut answers = [junk; 8200];
-    let mut plain = [junk; 8200];
+    let mut answers = [junk; 12300];
+    let mut plain = [junk; 12300];
     let q = drawn(kind, l, draw(seed, 2));
     let found = list_into(archive, q, &mut answers);
     let expected = pairs::list(entries, lengths, l, q, &mut plain);

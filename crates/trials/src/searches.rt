@@ -21,6 +21,7 @@ use plain::search;
 use slices::both_same;
 use slices::least;
 use slices::minus;
+use slices::times;
 use slices::up;
 use top_k::Probed;
 
@@ -34,7 +35,7 @@ fn ended(found: TopK) -> Outcome {
 
 fn probed(found: Probed) -> Outcome {
     match found {
-        Probed::Pairs(listed) => number(listed),
+        Probed::Listed(listed) => number(listed),
         Probed::Refused(x) => refused(x),
     }
 }
@@ -109,16 +110,25 @@ fn drawn_ends(kind: u32, l: Sizes, t: Terms, seed: u32) -> Ends {
     }
 }
 
+// The numbers that are written for each document: a pair for the weighted search, else a place too.
+fn numbers_each(kind: u32) -> u32 {
+    if kind == 17 {
+        return 2;
+    }
+    3
+}
+
 fn drawn(kind: u32, l: Sizes, t: Terms, seed: u32) -> Question {
     let e = drawn_ends(kind, l, t, draw(seed, 1));
     let k = drawn_k(l, draw(seed, 2));
+    let asked = times(least(k, l.documents), numbers_each(kind));
     Question {
         kind,
         a: e.first,
         b: e.last,
         c: k,
         d: 4294967295,
-        answers: room(draw(seed, 3), up(least(k, l.documents), 1)),
+        answers: room(draw(seed, 3), asked),
         work: room(draw(seed, 4), up(l.documents, 2)),
     }
 }
@@ -133,8 +143,8 @@ pub fn ask(
     junk: u32,
     made: &mut [u32; 64],
 ) -> Outcome {
-    let mut answers = [junk; 8200];
-    let mut plain = [junk; 8200];
+    let mut answers = [junk; 12300];
+    let mut plain = [junk; 12300];
     let mut work = [junk; 16400];
     let mut plain_work = [junk; 16400];
     let found = search_into(archive, q, t, &mut answers, &mut work);

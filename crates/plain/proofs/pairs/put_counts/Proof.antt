@@ -1,4 +1,4 @@
--- `put_counts`: the lent slice keeps its length, and the counter moves to its bound.
+-- `put_counts`: the slice of pairs keeps its length, and the counter moves to its bound.
 use Prim.Native.Nat.{_-_}
 use lib.ListN.{length}
 use mathlib.Core.Path.{_≡_}
@@ -7,10 +7,10 @@ use Rattle.plain.proofs.pairs.put_counts.Statement.{statement}
 use Rattle.plain.proofs.pairs.put_counts.Tie as tie
 
 abbrev Inv-loop : tie.InvT-loop
-Inv-loop counts documents answers₀ listed₀ d₀ answers listed d = length answers ≡ length answers₀
+Inv-loop counts documents pairs₀ listed₀ d₀ pairs listed d = length pairs ≡ length pairs₀
 
 abbrev μ-loop : tie.MeasureT-loop
-μ-loop counts documents answers₀ listed₀ d₀ answers listed d = documents - d
+μ-loop counts documents pairs₀ listed₀ d₀ pairs listed d = documents - d
 
 loop-holds : tie.Need-loop-holds Inv-loop μ-loop
 loop-holds c = search needs
