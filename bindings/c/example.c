@@ -43,18 +43,22 @@ static void open_and_read(void) {
   say("read, lengths", 0, lengths, 3);
 }
 
-/* Questions that check the archive. A repeated term counts once. */
+/* Questions that check the archive. A list has three numbers a document, and a conjunction pairs; a repeated term counts once. */
 static void ask(void) {
-  uint32_t x = 99, range[2] = {0, 0}, answers[2 * N], listed = 0;
+  uint32_t x = 99, range[2] = {0, 0}, answers[3 * N], listed = 0;
   say("access 4", masuvelior_access(archive, size, 4, &x), &x, 1);
   say("rank of 3 before 8", masuvelior_rank(archive, size, 3, 8, &x), &x, 1);
   say("select second 0", masuvelior_select(archive, size, 0, 2, &x), &x, 1);
   say("quantile 4 of 0 to 8", masuvelior_quantile(archive, size, 0, 8, 4, &x), &x, 1);
   say("quantile 0 of term 2", masuvelior_quantile_terms(archive, size, 2, 2, 0, &x), &x, 1);
-  uint32_t code = masuvelior_list(archive, size, 0, 4, answers, 2 * N, &listed);
-  say("list 0 to 4", code, answers, 2 * listed);
-  code = masuvelior_list_terms(archive, size, 1, 1, answers, 2 * N, &listed);
-  say("list of term 1", code, answers, 2 * listed);
+  uint32_t code = masuvelior_list(archive, size, 0, 4, answers, 3 * N, &listed);
+  say("list 0 to 4", code, answers, 3 * listed);
+  code = masuvelior_list(archive, size, 3, 8, answers, 3 * N, &listed);
+  say("list 3 to 8", code, answers, 3 * listed);
+  code = masuvelior_list_terms(archive, size, 1, 1, answers, 3 * N, &listed);
+  say("list of term 1", code, answers, 3 * listed);
+  code = masuvelior_list_terms(archive, size, 2, 2, answers, 3 * N, &listed);
+  say("list of term 2", code, answers, 3 * listed);
   const uint32_t chosen[] = {0, 2, 0};
   code = masuvelior_conjunction(archive, size, chosen, 2, answers, 2 * N, &listed);
   say("terms 0 and 2", code, answers, 2 * listed);
@@ -97,18 +101,25 @@ static void count_all(void) {
   count("rank of {} before 9", many, 0, 9);
 }
 
+/* Three numbers a document: its number, its count, and the place of its first entry in the range, counted from entry 0. */
 static void search(void) {
-  uint32_t answers[2 * N], work[4 * N], listed = 0, end[2] = {9, 9};
-  uint32_t code = masuvelior_greedy_entries(archive, size, 0, 8, 2, 9, answers, 4, work, 4 * N, &listed, &end[0], &end[1]);
-  say("greedy 0 to 8, 2, 9", code, answers, 2 * listed);
+  uint32_t answers[3 * N], work[4 * N], listed = 0, end[2] = {9, 9};
+  uint32_t code = masuvelior_greedy_entries(archive, size, 0, 8, 2, 9, answers, 6, work, 4 * N, &listed, &end[0], &end[1]);
+  say("greedy 0 to 8, 2, 9", code, answers, 3 * listed);
   say("  done", code, end, 2);
-  code = masuvelior_greedy_terms(archive, size, 0, 2, 1, 2, answers, 2, work, 4 * N, &listed, &end[0], &end[1]);
-  say("greedy terms 0 to 2, 1, 2", code, answers, 2 * listed);
+  code = masuvelior_greedy_entries(archive, size, 3, 8, 2, 9, answers, 6, work, 4 * N, &listed, &end[0], &end[1]);
+  say("greedy 3 to 8, 2, 9", code, answers, 3 * listed);
+  say("  done", code, end, 2);
+  code = masuvelior_greedy_terms(archive, size, 0, 2, 1, 2, answers, 3, work, 4 * N, &listed, &end[0], &end[1]);
+  say("greedy terms 0 to 2, 1, 2", code, answers, 3 * listed);
   say("  spent", code, end, 2);
-  code = masuvelior_probing_entries(archive, size, 1, 4, 3, answers, 6, work, 4 * N, &listed);
-  say("probing 1 to 4, 3", code, answers, 2 * listed);
-  code = masuvelior_probing_terms(archive, size, 0, 0, 1, answers, 2, work, 4 * N, &listed);
-  say("probing term 0, 1", code, answers, 2 * listed);
+  code = masuvelior_greedy_terms(archive, size, 2, 2, 2, 9, answers, 6, work, 4 * N, &listed, &end[0], &end[1]);
+  say("greedy term 2, 2, 9", code, answers, 3 * listed);
+  say("  done", code, end, 2);
+  code = masuvelior_probing_entries(archive, size, 1, 4, 3, answers, 9, work, 4 * N, &listed);
+  say("probing 1 to 4, 3", code, answers, 3 * listed);
+  code = masuvelior_probing_terms(archive, size, 0, 0, 1, answers, 3, work, 4 * N, &listed);
+  say("probing term 0, 1", code, answers, 3 * listed);
 }
 
 /* Rare terms weigh more: terms 0 and 2 have three and four of the four documents and weigh 1 and 0, term 1 has none and weighs 0. Documents
@@ -224,31 +235,31 @@ static void match_all(void) {
 
 /* Many questions of one archive: it was opened once, and is not checked again. */
 static void ask_opened(void) {
-  uint32_t x = 99, range[2], answers[2 * N], work[4 * N], listed = 0, end[2];
+  uint32_t x = 99, range[2], answers[3 * N], work[4 * N], listed = 0, end[2];
   uint32_t entries[8], lengths[3], sizes[3];
   say("opened access 4", masuvelior_opened_access(archive, size, 4, &x), &x, 1);
   say("opened rank of 3 before 3", masuvelior_opened_rank(archive, size, 3, 3, &x), &x, 1);
   say("opened select third 0", masuvelior_opened_select(archive, size, 0, 3, &x), &x, 1);
   say("opened quantile 7 of 0 to 8", masuvelior_opened_quantile(archive, size, 0, 8, 7, &x), &x, 1);
   say("opened quantile 2 of term 0", masuvelior_opened_quantile_terms(archive, size, 0, 0, 2, &x), &x, 1);
-  uint32_t code = masuvelior_opened_list(archive, size, 3, 8, answers, 2 * N, &listed);
-  say("opened list 3 to 8", code, answers, 2 * listed);
-  code = masuvelior_opened_list_terms(archive, size, 0, 0, answers, 2 * N, &listed);
-  say("opened list of term 0", code, answers, 2 * listed);
+  uint32_t code = masuvelior_opened_list(archive, size, 3, 8, answers, 3 * N, &listed);
+  say("opened list 3 to 8", code, answers, 3 * listed);
+  code = masuvelior_opened_list_terms(archive, size, 0, 0, answers, 3 * N, &listed);
+  say("opened list of term 0", code, answers, 3 * listed);
   const uint32_t twice[] = {0, 0};
   code = masuvelior_opened_conjunction(archive, size, twice, 2, answers, 2 * N, &listed);
   say("opened terms 0 and 0", code, answers, 2 * listed);
   say("opened range of term 0", masuvelior_opened_range_of_terms(archive, size, 0, 0, &range[0], &range[1]), range, 2);
-  code = masuvelior_opened_greedy_entries(archive, size, 1, 4, 3, 2, answers, 6, work, 4 * N, &listed, &end[0], &end[1]);
-  say("opened greedy 1 to 4, 3, 2", code, answers, 2 * listed);
+  code = masuvelior_opened_greedy_entries(archive, size, 1, 4, 3, 2, answers, 9, work, 4 * N, &listed, &end[0], &end[1]);
+  say("opened greedy 1 to 4, 3, 2", code, answers, 3 * listed);
   say("  spent", code, end, 2);
-  code = masuvelior_opened_greedy_terms(archive, size, 1, 1, 5, 0, answers, 2 * N, work, 4 * N, &listed, &end[0], &end[1]);
-  say("opened greedy term 1, 5, 0", code, answers, 2 * listed);
+  code = masuvelior_opened_greedy_terms(archive, size, 1, 1, 5, 0, answers, 3 * N, work, 4 * N, &listed, &end[0], &end[1]);
+  say("opened greedy term 1, 5, 0", code, answers, 3 * listed);
   say("  done", code, end, 2);
-  code = masuvelior_opened_probing_entries(archive, size, 0, 8, 4, answers, 2 * N, work, 4 * N, &listed);
-  say("opened probing 0 to 8, 4", code, answers, 2 * listed);
-  code = masuvelior_opened_probing_terms(archive, size, 2, 2, 2, answers, 4, work, 4 * N, &listed);
-  say("opened probing term 2, 2", code, answers, 2 * listed);
+  code = masuvelior_opened_probing_entries(archive, size, 0, 8, 4, answers, 3 * N, work, 4 * N, &listed);
+  say("opened probing 0 to 8, 4", code, answers, 3 * listed);
+  code = masuvelior_opened_probing_terms(archive, size, 2, 2, 2, answers, 6, work, 4 * N, &listed);
+  say("opened probing term 2, 2", code, answers, 3 * listed);
   code = masuvelior_opened_read(archive, size, entries, 8, lengths, 3, &sizes[0], &sizes[1], &sizes[2]);
   say("opened read", code, sizes, 3);
 }
@@ -266,7 +277,7 @@ static void walk(void) {
 
 /* A refusal answers its number and leaves what is lent as it was. */
 static void refusals(void) {
-  uint32_t x = 99, listed = 98, answers[2 * N] = {5, 5, 5, 5, 5, 5, 5, 5}, work[4 * N] = {6}, end[2] = {97, 96};
+  uint32_t x = 99, listed = 98, answers[3 * N] = {5, 5, 5, 5, 5, 5, 5, 5, 5, 5, 5, 5}, work[4 * N] = {6}, end[2] = {97, 96};
   uint32_t order[MASUVELIOR_MAX_CHOSEN] = {4, 4, 4, 4, 4, 4, 4, 4};
   const uint32_t nine[] = {0, 0, 0, 0, 0, 0, 0, 0, 0}, three[] = {3}, repeated[] = {0, 0, 3}, falling[] = {3, 0};
   say("access 8", masuvelior_access(archive, size, 8, &x), &x, 1);
@@ -278,9 +289,16 @@ static void refusals(void) {
   say("nine terms", masuvelior_conjunction(archive, size, nine, 9, answers, 2 * N, &listed), &listed, 1);
   say("terms 0, 0 and 3", masuvelior_conjunction(archive, size, repeated, 3, answers, 2 * N, &listed), &listed, 1);
   say("opened no terms", masuvelior_opened_conjunction(archive, size, nine, 0, answers, 2 * N, &listed), &listed, 1);
-  say("list, short answers", masuvelior_opened_list(archive, size, 0, 8, answers, 2 * N - 1, &listed), &listed, 1);
-  say("greedy, short work", masuvelior_greedy_entries(archive, size, 0, 8, 2, 9, answers, 4, work, 4 * N - 1, &listed, &end[0], &end[1]), end, 2);
-  uint32_t code = masuvelior_weighted(archive, size, nine, 9, 2, 9, answers, 4, work, 4 * N, &listed, &end[0], &end[1]);
+  say("conjunction, short answers", masuvelior_conjunction(archive, size, nine, 1, answers, 2 * N - 1, &listed), &listed, 1);
+  say("list, short answers", masuvelior_list(archive, size, 0, 8, answers, 3 * N - 1, &listed), &listed, 1);
+  say("opened list, short answers", masuvelior_opened_list(archive, size, 4, 4, answers, 3 * N - 1, &listed), &listed, 1);
+  uint32_t code = masuvelior_greedy_entries(archive, size, 0, 8, 2, 9, answers, 5, work, 4 * N - 1, &listed, &end[0], &end[1]);
+  say("greedy, short answers and work", code, end, 2);
+  code = masuvelior_greedy_entries(archive, size, 0, 8, 2, 9, answers, 6, work, 4 * N - 1, &listed, &end[0], &end[1]);
+  say("greedy, short work", code, end, 2);
+  code = masuvelior_opened_probing_entries(archive, size, 0, 8, 5, answers, 3 * N - 1, work, 4 * N, &listed);
+  say("opened probing, short answers", code, &listed, 1);
+  code = masuvelior_weighted(archive, size, nine, 9, 2, 9, answers, 4, work, 4 * N, &listed, &end[0], &end[1]);
   say("weighted, nine terms", code, end, 2);
   code = masuvelior_opened_weighted(archive, size, nine, 0, 2, 9, answers, 4, work, 4 * N, &listed, &end[0], &end[1]);
   say("opened weighted, no terms", code, end, 2);
@@ -295,7 +313,7 @@ static void refusals(void) {
   say("boolean, term 3, short answers", masuvelior_opened_boolean(archive, size, missing, 1, answers, N - 1, &listed), &listed, 1);
   say("boolean, unread, short answers", masuvelior_boolean(archive, size, unread, 2, answers, N - 1, &listed), &listed, 1);
   say("boolean, unread, one byte less", masuvelior_boolean(archive, size - 1, unread, 2, answers, N - 1, &listed), &listed, 1);
-  say("  answers", 0, answers, 2 * N);
+  say("  answers", 0, answers, 3 * N);
   say("  work", 0, work, 1);
   say("  order", 0, order, MASUVELIOR_MAX_CHOSEN);
 }

@@ -2,10 +2,9 @@
  *
  * The library is target/staticlib/libmasuvelior.a, which `rt staticlib masuvelior` proves and builds, for x86-64 Linux. It needs no other
  * library than C's, of that memcpy and memset alone, has no state, allocates nothing and may be called from several threads at once. Of the
- * stack a call takes up to 25 KB (masuvelior_write), 22 KB (masuvelior_boolean and masuvelior_opened_boolean), 17 KB (masuvelior_read and
- * masuvelior_opened_read), 7 KB (masuvelior_weighted and masuvelior_opened_weighted), 6 KB (masuvelior_rank_set and
- * masuvelior_opened_rank_set) or 4 KB (all others); a program that binds memcpy and memset at their first call lets the loader take 3 KB
- * more there.
+ * stack a call takes up to 25 KB (masuvelior_write), 22 KB (masuvelior_boolean, masuvelior_list and masuvelior_list_terms), 17 KB
+ * (masuvelior_read), 7 KB (masuvelior_weighted), 6 KB (masuvelior_rank_set, the greedy search and probing) or 4 KB (all others), each of
+ * these also in its opened form; a program that binds memcpy and memset at their first call lets the loader take 3 KB more there.
  *
  * The answer of each function is 0, or the number of a refusal (enum masuvelior_refusal). Where it is 0 each out-parameter is written, and
  * the lent slices as the function says. Where it is not 0 nothing is written at all.
@@ -38,10 +37,11 @@
  * before, it counted each time. From 3.0 on masuvelior_select answers n where a document has fewer than j entries; before, UINT32_MAX. 3.1
  * added questions with and, or, not (masuvelior_boolean). From 4.0 on masuvelior_per_mille rounds to the nearest; before, down. 4.1 added
  * the count of a set of documents (masuvelior_rank_set). 4.2 added the order in which a weighted score is added up
- * (masuvelior_rarest_first). */
+ * (masuvelior_rarest_first). From 5.0 on list, greedy and probing (masuvelior_list, masuvelior_greedy_entries, masuvelior_probing_entries, and
+ * the same of terms) answer three numbers a document, the third its first place, and ask for room for them; before, two. */
 #define MASUVELIOR_EDITION 1
-#define MASUVELIOR_VERSION_MAJOR 4
-#define MASUVELIOR_VERSION_MINOR 2
+#define MASUVELIOR_VERSION_MAJOR 5
+#define MASUVELIOR_VERSION_MINOR 0
 
 /* The limits: n is 0 to MASUVELIOR_MAX_ENTRIES, N and W are 1 to theirs, a conjunction, an order of terms or a weighted search is given 1
  * to MASUVELIOR_MAX_CHOSEN terms, a question with and, or, not has 1 to MASUVELIOR_MAX_QUESTION numbers and at most MASUVELIOR_MAX_DEPTH
@@ -61,11 +61,13 @@
 #define MASUVELIOR_OPEN 60003
 #define MASUVELIOR_CLOSE 60004
 
-/* How many numbers are asked for: in the answer slice of list and conjunction, in that of a question with and, or, not, in that of top-k, by
- * count or by score, and in the work slice of top-k. */
-#define MASUVELIOR_LIST_LENGTH(documents) (2 * (size_t)(documents))
+/* How many numbers are asked for: in the answer slice of list, of a conjunction, and of a question with and, or, not; in that of top-k by count,
+ * greedy or probing, and in that of the weighted search; and in the work slice of these three. */
+#define MASUVELIOR_LIST_LENGTH(documents) (3 * (size_t)(documents))
+#define MASUVELIOR_CONJUNCTION_LENGTH(documents) (2 * (size_t)(documents))
 #define MASUVELIOR_BOOLEAN_LENGTH(documents) ((size_t)(documents))
-#define MASUVELIOR_TOP_K_LENGTH(k, documents) (2 * (size_t)((k) < (documents) ? (k) : (documents)))
+#define MASUVELIOR_TOP_K_LENGTH(k, documents) (3 * (size_t)((k) < (documents) ? (k) : (documents)))
+#define MASUVELIOR_WEIGHTED_LENGTH(k, documents) (2 * (size_t)((k) < (documents) ? (k) : (documents)))
 #define MASUVELIOR_WORK_LENGTH(documents) (4 * (size_t)(documents))
 
 /* A pointer to lend for a slice that may be empty: p, or where p is NULL one that is aligned and leads to nothing, as
@@ -182,23 +184,27 @@ MASUVELIOR_MUST_USE
 uint32_t masuvelior_quantile_terms(const uint8_t *archive, size_t archive_length, uint32_t first, uint32_t last, uint32_t r,
                                    uint32_t *document);
 
-/* Answers as pairs: document and count one after the other in the front of the answer slice, whose rest is untouched; `listed` is how
- * many pairs there are. */
+/* Answers of several numbers a document: one document after the other in the front of the answer slice, whose rest is untouched; `listed` is
+ * how many documents there are. Those of a range are three numbers each: document, count, and place of its first entry in the range. Places
+ * count from entry 0 of the archive, also where the range starts behind it. Those of chosen terms are pairs: document, and count or score. */
 
-/* Every document among the entries a to b once, ascending, with its count. 11: a > b, b > n. 12: answers under 2 * N numbers.
- * Cost: 4 ranks for each node of the tree with an entry of the range in it: at most h for each document listed. */
+/* Every document among the entries a to b once, ascending, with its count and first place. 11: a > b, b > n. 12: answers under 3 * N numbers
+ * (MASUVELIOR_LIST_LENGTH).
+ * Cost: 4 ranks for each node of the tree with an entry of the range in it: at most h for each document listed. Then, for the first places, one
+ * step a row for each entry of the range, or, where it has more than 24 entries for each document, a walk down the tree and back for each
+ * document. */
 MASUVELIOR_MUST_USE
 uint32_t masuvelior_list(const uint8_t *archive, size_t archive_length, uint32_t a, uint32_t b,
                          uint32_t *answers, size_t answers_length, uint32_t *listed);
 
-/* The same of the terms first to last, at the same cost. 11: first > last, a term W or more. 12: answers under 2 * N numbers. */
+/* The same of the terms first to last, at the same cost. 11: first > last, a term W or more. 12: answers under 3 * N numbers. */
 MASUVELIOR_MUST_USE
 uint32_t masuvelior_list_terms(const uint8_t *archive, size_t archive_length, uint32_t first, uint32_t last,
                                uint32_t *answers, size_t answers_length, uint32_t *listed);
 
-/* The documents with an entry under each of the chosen terms, ascending, with the sum of their counts. A repeated term counts once: the
- * first stands, later ones drop out. 10: no term or more than eight, before any drops out. 11: a term W or more, of all that are given.
- * 12: answers under 2 * N numbers.
+/* The documents with an entry under each of the chosen terms, ascending, with the sum of their counts, as pairs. A repeated term counts once:
+ * the first stands, later ones drop out. 10: no term or more than eight, before any drops out. 11: a term W or more, of all that are given.
+ * 12: answers under 2 * N numbers (MASUVELIOR_CONJUNCTION_LENGTH).
  * Cost: 2 ranks, and 2 for each different term, for each node in which every term has an entry: at most h for each document of the shortest
  * term. */
 MASUVELIOR_MUST_USE
@@ -240,16 +246,18 @@ uint32_t masuvelior_rarest_first(const uint8_t *archive, size_t archive_length, 
 MASUVELIOR_MUST_USE
 uint32_t masuvelior_per_mille(uint32_t count, uint32_t size, uint32_t *rate);
 
-/* ---- top-k: the first k documents of a range by larger count, or of chosen terms by larger score, equal ones by lower number, as pairs
+/* ---- top-k: the first k documents of a range by larger count, three numbers each, or of chosen terms by larger score, as pairs; equal ones by
+ * lower number
  *
  * After an answer the first 4 * N numbers of the work slice are 0 and the rest of it is untouched; what it held before does not matter.
- * 12: answers under 2 * min(k, N) numbers (MASUVELIOR_TOP_K_LENGTH). 13: work under 4 * N numbers (MASUVELIOR_WORK_LENGTH). */
+ * 12: answers under 3 * min(k, N) numbers (MASUVELIOR_TOP_K_LENGTH), or for the weighted search under 2 * min(k, N)
+ * (MASUVELIOR_WEIGHTED_LENGTH). 13: work under 4 * N numbers (MASUVELIOR_WORK_LENGTH). */
 
 /* The greedy search of the entries a to b, which may open so many nodes as the allowance says. `spent` is 0 where it is done, and `number`
- * is then the openings that were needed; `spent` is 1 where its allowance was spent first, and `number` is then the allowance: the pairs
- * listed are those of the answer's front that the allowance covers. 11: a > b, b > n.
+ * is then the openings that were needed; `spent` is 1 where its allowance was spent first, and `number` is then the allowance: the
+ * documents listed are those of the answer's front that the allowance covers. 11: a > b, b > n.
  * Cost: 4 ranks for each node opened, so at most 4 * allowance; for each node opened or document named a step in a heap of the waiting
- * nodes; and 4 * N numbers cleared. */
+ * nodes; for each document listed a walk down the tree and back, which finds its first place; and 4 * N numbers cleared. */
 MASUVELIOR_MUST_USE
 uint32_t masuvelior_greedy_entries(const uint8_t *archive, size_t archive_length, uint32_t a, uint32_t b, uint32_t k, uint32_t allowance,
                                    uint32_t *answers, size_t answers_length, uint32_t *work, size_t work_length,
@@ -263,7 +271,8 @@ uint32_t masuvelior_greedy_terms(const uint8_t *archive, size_t archive_length, 
 
 /* The whole answer by probing, without an allowance, of the entries a to b. 11: a > b, b > n.
  * Cost: 4 * h ranks for each probe. Where the last of k documents has count c, there are fewer than 2 * (b - a) / c probes, and never more than
- * b - a; each new document is put into its place among the k, and 5 * N numbers are cleared. */
+ * b - a; each new document is put in order among the k; for each document listed a walk down the tree and back, which finds its first place; and
+ * 5 * N numbers are cleared. */
 MASUVELIOR_MUST_USE
 uint32_t masuvelior_probing_entries(const uint8_t *archive, size_t archive_length, uint32_t a, uint32_t b, uint32_t k,
                                     uint32_t *answers, size_t answers_length, uint32_t *work, size_t work_length, uint32_t *listed);

@@ -7,13 +7,14 @@
 #include <ucontext.h>
 
 enum { STACK = 1 << 17, PAINT = 0xA5, N = MASUVELIOR_MAX_DOCUMENTS, W = MASUVELIOR_MAX_TERMS, ENTRIES = MASUVELIOR_MAX_ENTRIES };
-enum { WRITER = 25 * 1024, BOOLEAN = 22 * 1024, READER = 17 * 1024, WEIGHTED = 7 * 1024, RANK_SET = 6 * 1024, OTHER = 4 * 1024 };
+enum { WRITER = 25 * 1024, BOOLEAN = 22 * 1024, LIST = 22 * 1024, READER = 17 * 1024, WEIGHTED = 7 * 1024 };
+enum { RANK_SET = 6 * 1024, TOP_K = 6 * 1024, OTHER = 4 * 1024 };
 
 /* Eight terms with as many entries each, typed descending, so that each has another place in their order. */
 static const uint32_t chosen[MASUVELIOR_MAX_CHOSEN] = {7, 6, 5, 4, 3, 2, 1, 0};
 
 /* A library at every limit, with entries in every node: calls go all their way. */
-static uint32_t entries[ENTRIES], lengths[W], answers[2 * N], work[4 * N], listed, spent, number;
+static uint32_t entries[ENTRIES], lengths[W], answers[3 * N], work[4 * N], listed, spent, number;
 static uint32_t order[MASUVELIOR_MAX_CHOSEN];
 static uint16_t question[MASUVELIOR_MAX_QUESTION];
 static uint32_t set[MASUVELIOR_MAX_SET];
@@ -44,8 +45,8 @@ static void make_set(void) {
 
 /* Every function: the end of its name, its bound, the call. */
 #define BYTES archive, size
-#define PAIRS answers, 2 * N, &listed
-#define SEARCH answers, 2 * N, work, 4 * N, &listed
+#define ANSWERS answers, 3 * N, &listed
+#define SEARCH answers, 3 * N, work, 4 * N, &listed
 #define QUESTIONS(X, form)                                                                                   \
   X(form##read, READER, (BYTES, entries, ENTRIES, lengths, W, &listed, &spent, &number))                     \
   X(form##access, OTHER, (BYTES, 12345, &number))                                                            \
@@ -54,16 +55,16 @@ static void make_set(void) {
   X(form##select, OTHER, (BYTES, 1234, 3, &number))                                                          \
   X(form##quantile, OTHER, (BYTES, 1, 60000, 3456, &number))                                                 \
   X(form##quantile_terms, OTHER, (BYTES, 0, W - 1, 3456, &number))                                           \
-  X(form##list, OTHER, (BYTES, 0, ENTRIES, PAIRS))                                                           \
-  X(form##list_terms, OTHER, (BYTES, 0, W - 1, PAIRS))                                                       \
-  X(form##conjunction, OTHER, (BYTES, chosen, MASUVELIOR_MAX_CHOSEN, PAIRS))                                 \
+  X(form##list, LIST, (BYTES, 0, ENTRIES, ANSWERS))                                                          \
+  X(form##list_terms, LIST, (BYTES, 0, W - 1, ANSWERS))                                                      \
+  X(form##conjunction, OTHER, (BYTES, chosen, MASUVELIOR_MAX_CHOSEN, ANSWERS))                               \
   X(form##boolean, BOOLEAN, (BYTES, question, MASUVELIOR_MAX_QUESTION, answers, N, &listed))                 \
   X(form##range_of_terms, OTHER, (BYTES, 0, W - 1, &listed, &number))                                        \
   X(form##rarest_first, OTHER, (BYTES, chosen, MASUVELIOR_MAX_CHOSEN, order, &number))                       \
-  X(form##greedy_entries, OTHER, (BYTES, 0, ENTRIES, N, UINT32_MAX, SEARCH, &spent, &number))                \
-  X(form##greedy_terms, OTHER, (BYTES, 0, W - 1, N, UINT32_MAX, SEARCH, &spent, &number))                    \
-  X(form##probing_entries, OTHER, (BYTES, 0, ENTRIES, N, SEARCH))                                            \
-  X(form##probing_terms, OTHER, (BYTES, 0, W - 1, N, SEARCH))                                                \
+  X(form##greedy_entries, TOP_K, (BYTES, 0, ENTRIES, N, UINT32_MAX, SEARCH, &spent, &number))                \
+  X(form##greedy_terms, TOP_K, (BYTES, 0, W - 1, N, UINT32_MAX, SEARCH, &spent, &number))                    \
+  X(form##probing_entries, TOP_K, (BYTES, 0, ENTRIES, N, SEARCH))                                            \
+  X(form##probing_terms, TOP_K, (BYTES, 0, W - 1, N, SEARCH))                                                \
   X(form##weighted, WEIGHTED, (BYTES, chosen, MASUVELIOR_MAX_CHOSEN, N, UINT32_MAX, SEARCH, &spent, &number))
 #define CALLS(X)                                                                                             \
   X(archive_length, OTHER, (ENTRIES, N, W, &needed))                                                         \
@@ -104,13 +105,14 @@ static size_t used(void (*call)(void)) {
 }
 
 int main(void) {
-  size_t count = sizeof calls / sizeof calls[0], deepest = 0;
+  size_t count = sizeof calls / sizeof calls[0], others = 0, deepest = 0;
   int failed = 0;
   make_library();
   make_question();
   make_set();
   for (size_t i = 0; i < count; i++) {
     size_t bytes = used(calls[i].call);
+    others += calls[i].bound == OTHER;
     if (calls[i].bound == OTHER && bytes > deepest) deepest = bytes;
     if (calls[i].bound != OTHER) printf("stack: %s takes %zu bytes\n", calls[i].name, bytes);
     if (code != MASUVELIOR_OK || bytes > calls[i].bound) {
@@ -118,6 +120,6 @@ int main(void) {
       failed = 1;
     }
   }
-  printf("stack: the deepest of the %zu others takes %zu bytes\n", count - 9, deepest);
+  printf("stack: the deepest of the %zu others takes %zu bytes\n", others, deepest);
   return failed;
 }

@@ -56,6 +56,17 @@ void ask(std::vector<uint8_t> &archive) {
   expect("no terms to weigh", nothing == MASUVELIOR_REFUSED_TERM_COUNT && listed == 0);
 }
 
+// Lists of no entries: room for three numbers a document is asked for, though nothing is listed and nothing is written.
+void list(std::vector<uint8_t> &archive) {
+  uint32_t listed = 9;
+  std::vector<uint32_t> answers(MASUVELIOR_LIST_LENGTH(5) - 1, 9);
+  const uint32_t small = masuvelior_list(lent(archive), archive.size(), 0, 0, lent(answers), answers.size(), &listed);
+  expect("no room for a list", small == MASUVELIOR_REFUSED_ANSWER_SLICE && listed == 9);
+  answers.push_back(9);
+  const uint32_t terms = masuvelior_opened_list_terms(lent(archive), archive.size(), 0, 1, lent(answers), answers.size(), &listed);
+  expect("a list of no entries", terms == MASUVELIOR_OK && listed == 0 && answers == std::vector<uint32_t>(15, 9));
+}
+
 // Sets of documents: an empty one counts 0, and is refused where the place is past the end; one that does not ascend is refused before that.
 void count(std::vector<uint8_t> &archive) {
   uint32_t counted = 9;
@@ -108,10 +119,13 @@ int main() {
   expect("no bytes", masuvelior_open(lent(empty), empty.size(), &n, &documents, &terms) == MASUVELIOR_REFUSED_TOO_SHORT);
   std::vector<uint8_t> archive = without_entries();
   ask(archive);
+  list(archive);
   count(archive);
   arrange(archive);
   match(archive);
-  expect("macros of lengths of top-k", MASUVELIOR_TOP_K_LENGTH(UINT32_MAX, 4u) == 8 && MASUVELIOR_TOP_K_LENGTH(3, 4) == 6);
-  expect("macros of lengths", MASUVELIOR_LIST_LENGTH(4) == 8 && MASUVELIOR_BOOLEAN_LENGTH(4) == 4);
+  expect("macros of lengths of top-k", MASUVELIOR_TOP_K_LENGTH(UINT32_MAX, 4u) == 12 && MASUVELIOR_TOP_K_LENGTH(3, 4) == 9);
+  expect("macros of lengths by score", MASUVELIOR_WEIGHTED_LENGTH(UINT32_MAX, 4u) == 8 && MASUVELIOR_WEIGHTED_LENGTH(3, 4) == 6);
+  expect("macros of lengths of lists", MASUVELIOR_LIST_LENGTH(4) == 12 && MASUVELIOR_CONJUNCTION_LENGTH(4) == 8);
+  expect("macros of other lengths", MASUVELIOR_BOOLEAN_LENGTH(4) == 4 && MASUVELIOR_WORK_LENGTH(4) == 16);
   return failed;
 }

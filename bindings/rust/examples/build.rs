@@ -55,7 +55,7 @@ fn main() -> Result<(), Box<dyn Error>> {
     println!("most of 'storm' to 'tide':");
     for found in archive.probing(Terms(range), 2)? {
         let rate = per_mille(found.count, size)?;
-        println!("  {rate} per mille: {}", TEXTS[found.document as usize]);
+        println!("  {rate} per mille, first at entry {}: {}", found.place, TEXTS[found.document as usize]);
     }
 
     if let Some(path) = std::env::args_os().nth(1) {

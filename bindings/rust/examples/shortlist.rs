@@ -1,4 +1,4 @@
-//! Opens an archive and prints the documents in which the terms FIRST to LAST occur most:
+//! Opens an archive and prints the documents in which the terms FIRST to LAST occur most, each with its count and the place of its first entry:
 //!
 //!     cargo run --example shortlist -- harbour.archive FIRST LAST [K [ALLOWANCE]]
 use masuvelior::Over::Terms;
@@ -28,7 +28,7 @@ fn run(words: Vec<String>) -> Result<(), Box<dyn Error>> {
     let archive = Archive::open(&bytes)?;
     let (documents, ended) = archive.greedy(Terms(first..=last), k, allowance)?;
     for found in documents {
-        println!("{} {}", found.document, found.count);
+        println!("{} {} {}", found.document, found.count, found.place);
     }
     match ended {
         Ended::Done { openings } => println!("done {openings}"),

@@ -21,7 +21,7 @@ use std::fmt;
 /// assert_eq!(archive.select(0, 2), Ok(7)); // place of the second 0
 /// assert_eq!(archive.select(0, 3), Ok(8)); // there is no third: n
 /// assert_eq!(archive.quantile(Entries(0..8), 4), Ok(2)); // the fifth, if they were sorted
-/// assert_eq!(archive.list(Terms(0..=0))?, [(0, 1), (1, 1), (3, 1)]);
+/// assert_eq!(archive.list(Terms(0..=0))?, [(0, 1, 2), (1, 1, 1), (3, 1, 0)]); // each with its count and first place
 /// assert_eq!(archive.conjunction(&[0, 0])?, [(0, 1), (1, 1), (3, 1)]); // a repeated term counts once
 /// assert_eq!(archive.range_of_terms(1..=2), Ok(3..8));
 /// assert_eq!(archive.rarest_first(&[2, 1, 0])?, [1, 0, 2]); // by number of entries

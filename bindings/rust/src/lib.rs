@@ -22,12 +22,12 @@
 //! assert_eq!(archive.rank_set(&[0, 3], 8)?, 5); // documents 0 and 3 together, five times
 //! assert_eq!(archive.conjunction(&[0, 2])?, [(0, 2), (1, 2), (3, 3)]); // documents under both terms
 //!
-//! // The two most frequent documents of all terms. Nine nodes may be opened, three are.
+//! // The two most frequent documents of all terms, each with its count and the place of its first entry. Nine nodes may be opened, three are.
 //! let (documents, ended) = archive.greedy(Terms(0..=2), 2, 9)?;
-//! assert_eq!(documents, [(3, 3), (0, 2)]);
+//! assert_eq!(documents, [(3, 3, 0), (0, 2, 2)]);
 //! assert_eq!(ended, Ended::Done { openings: 3 });
 //!
-//! assert_eq!(archive.list(Entries(3..5))?, [(2, 1), (3, 1)]);
+//! assert_eq!(archive.list(Entries(3..5))?, [(2, 1, 4), (3, 1, 3)]); // places count from entry 0
 //!
 //! // Rare terms weigh more: term 0 is in three of the four documents, term 2 in each of them, so their weights are 1 and 0.
 //! let (documents, ended) = archive.weighted(&[0, 2], 4, 3)?;
@@ -47,8 +47,8 @@ mod archive;
 mod argument;
 mod boolean;
 mod expr;
+mod found;
 pub mod marks;
-mod pairs;
 mod per_mille;
 mod questions;
 mod range;
@@ -61,7 +61,7 @@ mod write;
 pub use archive::Archive;
 pub use argument::Argument;
 pub use expr::Expr;
-pub use pairs::{Counted, Scored};
+pub use found::{Counted, Matched, Scored};
 pub use per_mille::per_mille;
 pub use range::Over;
 pub use refusal::Refusal;

@@ -1,7 +1,7 @@
 //! The questions asked of an archive; top-k and questions with and, or, not have files of their own.
 use crate::archive::Archive;
 use crate::argument::Argument;
-use crate::pairs::{numbers, room, Counted};
+use crate::found::{numbers, room, Counted, Matched};
 use crate::range::{term_ends, Over};
 use crate::refusal::{outcome, Refusal};
 use crate::sys;
@@ -142,8 +142,21 @@ impl Archive<'_> {
 
 /// Questions of documents with their counts.
 impl Archive<'_> {
-    /// Every document of the range once, ascending, with its count. Cost: 4 ranks for each node of the tree with an entry of the range in
-    /// it, at most h for each document listed.
+    /// Every document of the range once, ascending, with its count and the place of its first entry in the range, counted from entry 0.
+    /// Cost: 4 ranks for each node of the tree with an entry of the range in it, at most h for each document listed; then one step a row for
+    /// each entry of the range.
+    ///
+    /// ```
+    /// use masuvelior::{write, Archive, Over::Entries};
+    ///
+    /// let bytes = write(&[3, 1, 0, 3, 2, 1, 3, 0], &[3, 0, 5], 4)?;
+    /// let archive = Archive::open(&bytes)?;
+    ///
+    /// let documents = archive.list(Entries(3..8))?;
+    /// assert_eq!(documents, [(0, 1, 7), (1, 1, 5), (2, 1, 4), (3, 2, 3)]);
+    /// assert_eq!(archive.access(documents[0].place)?, documents[0].document); // 0 first stands at 7 there, though it stands at 2 too
+    /// # Ok::<(), masuvelior::Refusal>(())
+    /// ```
     ///
     /// # Errors
     /// 11 where the range is crossed or reaches past the archive.
@@ -157,7 +170,7 @@ impl Archive<'_> {
     /// The same in the front of a slice of the caller's, whose rest is untouched.
     ///
     /// # Errors
-    /// As [`list`](Archive::list), and 12 where the slice has under N pairs.
+    /// As [`list`](Archive::list), and 12 where the slice has under N elements.
     pub fn list_into<'b>(&self, over: Over, answers: &'b mut [Counted]) -> Result<&'b [Counted], Refusal> {
         let ask = match over {
             Over::Entries(_) => sys::masuvelior_opened_list,
@@ -165,10 +178,10 @@ impl Archive<'_> {
         };
         let (from, to) = over.ends();
         let (archive, length) = self.lent();
-        let (pairs, pairs_length) = numbers(answers);
+        let (found, found_length) = numbers(answers);
         let mut listed = 0;
         // SAFETY: POINTERS, WRITTEN and CONST by the references; OPENED by `Archive::open`, the only maker of an `Archive`.
-        let answer = unsafe { ask(archive, length, from, to, pairs, pairs_length, &mut listed) };
+        let answer = unsafe { ask(archive, length, from, to, found, found_length, &mut listed) };
         outcome(answer, ()).map_err(|refusal| self.about_range(refusal, &over))?;
         Ok(&answers[..listed as usize])
     }
@@ -179,7 +192,7 @@ impl Archive<'_> {
     ///
     /// # Errors
     /// 10 for no term or more than eight, before any drops out; 11 where one of all that are given is W or more.
-    pub fn conjunction(&self, terms: &[u32]) -> Result<Vec<Counted>, Refusal> {
+    pub fn conjunction(&self, terms: &[u32]) -> Result<Vec<Matched>, Refusal> {
         let mut answers = room(self.documents() as usize);
         let listed = self.conjunction_into(terms, &mut answers)?.len();
         answers.truncate(listed);
@@ -189,10 +202,10 @@ impl Archive<'_> {
     /// The same in the front of a slice of the caller's, whose rest is untouched.
     ///
     /// # Errors
-    /// As [`conjunction`](Archive::conjunction), and 12 where the slice has under N pairs.
-    pub fn conjunction_into<'b>(&self, terms: &[u32], answers: &'b mut [Counted]) -> Result<&'b [Counted], Refusal> {
+    /// As [`conjunction`](Archive::conjunction), and 12 where the slice has under N elements.
+    pub fn conjunction_into<'b>(&self, terms: &[u32], answers: &'b mut [Matched]) -> Result<&'b [Matched], Refusal> {
         let (archive, archive_length) = self.lent();
-        let (pairs, pairs_length) = numbers(answers);
+        let (found, found_length) = numbers(answers);
         let mut listed = 0;
         // SAFETY: POINTERS, WRITTEN and CONST by the references; OPENED by `Archive::open`, the only maker of an `Archive`.
         let answer = unsafe {
@@ -201,8 +214,8 @@ impl Archive<'_> {
                 archive_length,
                 terms.as_ptr(),
                 terms.len(),
-                pairs,
-                pairs_length,
+                found,
+                found_length,
                 &mut listed,
             )
         };

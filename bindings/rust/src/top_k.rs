@@ -1,6 +1,6 @@
 //! The two top-k searches by count.
 use crate::archive::Archive;
-use crate::pairs::{numbers, room, Counted};
+use crate::found::{numbers, room, Counted};
 use crate::range::Over;
 use crate::refusal::{outcome, Refusal};
 use crate::sys;
@@ -30,10 +30,12 @@ impl Ended {
     }
 }
 
-/// Top-k: the first k documents of a range by larger count, equal counts by lower number.
+/// Top-k: the first k documents of a range by larger count, equal counts by lower number, each with its count and the place of its first entry
+/// in the range, counted from entry 0.
 impl Archive<'_> {
     /// The greedy search, which may open so many nodes as the allowance says. Cost: 4 ranks for each node opened; for each node opened or
-    /// document named a step in a heap of the waiting nodes; and 4 × N numbers cleared.
+    /// document named a step in a heap of the waiting nodes; for each document listed a walk down the tree and back, which finds its first
+    /// place; and 4 × N numbers cleared.
     ///
     /// ```
     /// use masuvelior::{write, Archive, Ended, Over::Entries};
@@ -42,7 +44,8 @@ impl Archive<'_> {
     /// let archive = Archive::open(&bytes)?;
     ///
     /// let (documents, ended) = archive.greedy(Entries(1..4), 3, 2)?;
-    /// assert_eq!(documents, [(0, 1), (1, 1)]);
+    /// assert_eq!(documents, [(0, 1, 2), (1, 1, 1)]); // document, count, first place
+    /// assert_eq!((documents[0].document, documents[0].count, documents[0].place), (0, 1, 2));
     /// assert_eq!(ended, Ended::Spent { allowance: 2 });
     /// # Ok::<(), masuvelior::Refusal>(())
     /// ```
@@ -78,8 +81,8 @@ impl Archive<'_> {
     /// ```
     ///
     /// # Errors
-    /// As [`greedy`](Archive::greedy); 12 where `answers` has under [`answer_length(k)`](Archive::answer_length) pairs; 13 where `work` is
-    /// under its length.
+    /// As [`greedy`](Archive::greedy); 12 where `answers` has under [`answer_length(k)`](Archive::answer_length) elements; 13 where `work`
+    /// is under its length.
     pub fn greedy_into<'b>(
         &self,
         over: Over,
@@ -94,7 +97,7 @@ impl Archive<'_> {
         };
         let (from, to) = over.ends();
         let (archive, archive_length) = self.lent();
-        let (pairs, pairs_length) = numbers(answers);
+        let (found, found_length) = numbers(answers);
         let (mut listed, mut spent, mut number) = (0, 0, 0);
         // SAFETY: POINTERS, WRITTEN and CONST by the references; OPENED by `Archive::open`, the only maker of an `Archive`.
         let answer = unsafe {
@@ -105,8 +108,8 @@ impl Archive<'_> {
                 to,
                 k,
                 allowance,
-                pairs,
-                pairs_length,
+                found,
+                found_length,
                 work.as_mut_ptr(),
                 work.len(),
                 &mut listed,
@@ -119,15 +122,15 @@ impl Archive<'_> {
     }
 
     /// The whole answer by probing, without an allowance. Cost: 4 × h ranks for each probe. Where the last of k documents has count c,
-    /// there are fewer than 2 × size / c probes of a range of that size, and never more than size; each new document is put into its place
-    /// among the k, and 5 × N numbers are cleared.
+    /// there are fewer than 2 × size / c probes of a range of that size, and never more than size; each new document is put in order among
+    /// the k; for each document listed a walk down the tree and back, which finds its first place; and 5 × N numbers are cleared.
     ///
     /// ```
     /// use masuvelior::{write, Archive, Over::Entries};
     ///
     /// let bytes = write(&[3, 1, 0, 3, 2, 1, 3, 0], &[3, 0, 5], 4)?;
     /// let archive = Archive::open(&bytes)?;
-    /// assert_eq!(archive.probing(Entries(0..8), 3)?, [(3, 3), (0, 2), (1, 2)]);
+    /// assert_eq!(archive.probing(Entries(0..8), 3)?, [(3, 3, 0), (0, 2, 2), (1, 2, 1)]);
     /// # Ok::<(), masuvelior::Refusal>(())
     /// ```
     ///
@@ -158,17 +161,17 @@ impl Archive<'_> {
         };
         let (from, to) = over.ends();
         let (archive, archive_length) = self.lent();
-        let (pairs, pairs_length) = numbers(answers);
+        let (found, found_length) = numbers(answers);
         let mut listed = 0;
         // SAFETY: POINTERS, WRITTEN and CONST by the references; OPENED by `Archive::open`, the only maker of an `Archive`.
         let answer = unsafe {
-            ask(archive, archive_length, from, to, k, pairs, pairs_length, work.as_mut_ptr(), work.len(), &mut listed)
+            ask(archive, archive_length, from, to, k, found, found_length, work.as_mut_ptr(), work.len(), &mut listed)
         };
         outcome(answer, ()).map_err(|refusal| self.about_range(refusal, &over))?;
         Ok(&answers[..listed as usize])
     }
 
-    /// How many pairs an answer of top-k, weighted too, may have, and so how many must be lent for it: k, or N where that is less.
+    /// How many documents an answer of top-k, weighted too, may have, and so how many elements must be lent for it: k, or N where that is less.
     pub fn answer_length(&self, k: u32) -> usize {
         k.min(self.documents()) as usize
     }

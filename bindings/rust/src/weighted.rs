@@ -1,7 +1,7 @@
 //! The weighted top-k search, and the order in which it adds up scores.
 use crate::archive::Archive;
 use crate::argument::Argument;
-use crate::pairs::{numbers, room, Scored};
+use crate::found::{numbers, room, Scored};
 use crate::refusal::{outcome, Refusal};
 use crate::sys;
 use crate::top_k::Ended;
@@ -56,8 +56,8 @@ impl Archive<'_> {
     /// The same in slices of the caller's, as in [`greedy_into`](Archive::greedy_into).
     ///
     /// # Errors
-    /// As [`weighted`](Archive::weighted); 12 where `answers` has under [`answer_length(k)`](Archive::answer_length) pairs; 13 where `work`
-    /// is under [`work_length`](Archive::work_length).
+    /// As [`weighted`](Archive::weighted); 12 where `answers` has under [`answer_length(k)`](Archive::answer_length) elements; 13 where
+    /// `work` is under [`work_length`](Archive::work_length).
     pub fn weighted_into<'b>(
         &self,
         terms: &[u32],
@@ -67,7 +67,7 @@ impl Archive<'_> {
         work: &mut [u32],
     ) -> Result<(&'b [Scored], Ended), Refusal> {
         let (archive, archive_length) = self.lent();
-        let (pairs, pairs_length) = numbers(answers);
+        let (found, found_length) = numbers(answers);
         let (mut listed, mut spent, mut number) = (0, 0, 0);
         // SAFETY: POINTERS, WRITTEN and CONST by the references; OPENED by `Archive::open`, the only maker of an `Archive`.
         let answer = unsafe {
@@ -78,8 +78,8 @@ impl Archive<'_> {
                 terms.len(),
                 k,
                 allowance,
-                pairs,
-                pairs_length,
+                found,
+                found_length,
                 work.as_mut_ptr(),
                 work.len(),
                 &mut listed,

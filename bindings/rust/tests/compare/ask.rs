@@ -1,6 +1,6 @@
 //! Questions put through the crate: in vectors of its own, and in slices that we lend.
 use crate::questions::{singles, Answer, Question, Span};
-use masuvelior::{Archive, Counted, Ended, Over, Refusal, Scored};
+use masuvelior::{Archive, Counted, Ended, Matched, Over, Refusal, Scored};
 
 /// Slices to lend, full of numbers that differ from each other.
 #[derive(Clone, Debug, PartialEq)]
@@ -51,9 +51,9 @@ pub fn whole(archive: &Archive, question: &Question) -> Result<Answer, u32> {
         Question::Weighted { terms, k, allowance } => {
             archive.weighted(terms, *k, *allowance).map(|(found, ended)| with_end(&found, ended))
         }
-        Question::Probing { span, k } => archive.probing(over(*span), *k).map(|found| pairs(&found)),
-        Question::List { span } => archive.list(over(*span)).map(|found| pairs(&found)),
-        Question::Conjunction { terms } => archive.conjunction(terms).map(|found| pairs(&found)),
+        Question::Probing { span, k } => archive.probing(over(*span), *k).map(|found| listed(&found)),
+        Question::List { span } => archive.list(over(*span)).map(|found| listed(&found)),
+        Question::Conjunction { terms } => archive.conjunction(terms).map(|found| listed(&found)),
         Question::Boolean { question } => archive.boolean(question).map(|found| singles(&found)),
         Question::RarestFirst { terms } => archive.rarest_first(terms).map(|found| singles(&found)),
         _ => numbers(archive, question),
@@ -73,41 +73,80 @@ pub fn lent(archive: &Archive, question: &Question, scratch: &mut Scratch) -> Re
     }
     let work = &mut scratch.second;
     let answer = match question {
-        Question::Weighted { terms, k, allowance } => in_pairs::<Scored>(&mut scratch.first, |lent| {
+        Question::Weighted { terms, k, allowance } => in_documents::<Scored>(&mut scratch.first, |lent| {
             archive.weighted_into(terms, *k, *allowance, lent, work).map(|(found, ended)| with_end(found, ended))
         }),
+        Question::Conjunction { terms } => {
+            in_documents::<Matched>(&mut scratch.first, |lent| archive.conjunction_into(terms, lent).map(listed))
+        }
         Question::Boolean { question } => archive.boolean_into(question, &mut scratch.first).map(singles),
         Question::RarestFirst { terms } => archive.rarest_first_into(terms, eight(&mut scratch.first)).map(singles),
-        _ => in_pairs::<Counted>(&mut scratch.first, |lent| lent_pairs(archive, question, lent, work)),
+        Question::List { .. } | Question::Greedy { .. } | Question::Probing { .. } => {
+            in_documents::<Counted>(&mut scratch.first, |lent| counted(archive, question, lent, work))
+        }
+        _ => numbers(archive, question),
     };
     answer.map_err(Refusal::number)
 }
 
-/// Asks with pairs made of the lent numbers; what they are afterwards are the numbers again.
-fn in_pairs<P: Copy + From<(u32, u32)> + Into<(u32, u32)>>(
+/// What the crate lists for a document, by its tuple.
+trait Listed: Copy {
+    /// How many numbers it is.
+    const NUMBERS: usize;
+    fn of(numbers: &[u32]) -> Self;
+    fn numbers(self) -> Vec<u32>;
+}
+
+impl Listed for Counted {
+    const NUMBERS: usize = 3;
+    fn of(numbers: &[u32]) -> Counted {
+        Counted::from((numbers[0], numbers[1], numbers[2]))
+    }
+    fn numbers(self) -> Vec<u32> {
+        let (document, count, place) = self.into();
+        vec![document, count, place]
+    }
+}
+
+/// Of two numbers.
+macro_rules! listed_as_pair {
+    ($pair:ident) => {
+        impl Listed for $pair {
+            const NUMBERS: usize = 2;
+            fn of(numbers: &[u32]) -> $pair {
+                $pair::from((numbers[0], numbers[1]))
+            }
+            fn numbers(self) -> Vec<u32> {
+                let (document, number) = self.into();
+                vec![document, number]
+            }
+        }
+    };
+}
+
+listed_as_pair!(Matched);
+listed_as_pair!(Scored);
+
+/// Asks with documents made of the lent numbers; what they are afterwards are the numbers again.
+fn in_documents<L: Listed>(
     numbers: &mut Vec<u32>,
-    ask: impl FnOnce(&mut [P]) -> Result<Answer, Refusal>,
+    ask: impl FnOnce(&mut [L]) -> Result<Answer, Refusal>,
 ) -> Result<Answer, Refusal> {
-    let mut lent: Vec<P> = numbers.chunks_exact(2).map(|pair| P::from((pair[0], pair[1]))).collect();
+    let mut lent: Vec<L> = numbers.chunks_exact(L::NUMBERS).map(L::of).collect();
     let answer = ask(&mut lent);
     *numbers = flat(&lent);
     answer
 }
 
-fn lent_pairs(
-    archive: &Archive,
-    question: &Question,
-    lent: &mut [Counted],
-    work: &mut [u32],
-) -> Result<Answer, Refusal> {
+/// Documents of a range, with their counts and places.
+fn counted(archive: &Archive, question: &Question, lent: &mut [Counted], work: &mut [u32]) -> Result<Answer, Refusal> {
     match question {
-        Question::List { span } => archive.list_into(over(*span), lent).map(pairs),
-        Question::Conjunction { terms } => archive.conjunction_into(terms, lent).map(pairs),
+        Question::List { span } => archive.list_into(over(*span), lent).map(listed),
         Question::Greedy { span, k, allowance } => {
             archive.greedy_into(over(*span), *k, *allowance, lent, work).map(|(found, ended)| with_end(found, ended))
         }
-        Question::Probing { span, k } => archive.probing_into(over(*span), *k, lent, work).map(pairs),
-        _ => numbers(archive, question),
+        Question::Probing { span, k } => archive.probing_into(over(*span), *k, lent, work).map(listed),
+        _ => unreachable!("not of a range's documents: {question:?}"),
     }
 }
 
@@ -128,12 +167,8 @@ fn numbers(archive: &Archive, question: &Question) -> Result<Answer, Refusal> {
     Ok(Answer { numbers, ..Answer::default() })
 }
 
-fn flat<P: Copy + Into<(u32, u32)>>(found: &[P]) -> Vec<u32> {
-    let two = |pair: &P| {
-        let (document, number) = (*pair).into();
-        [document, number]
-    };
-    found.iter().flat_map(two).collect()
+fn flat<L: Listed>(found: &[L]) -> Vec<u32> {
+    found.iter().flat_map(|listed| listed.numbers()).collect()
 }
 
 /// The room of an order: the first eight of the lent numbers.
@@ -141,12 +176,12 @@ pub fn eight(lent: &mut [u32]) -> &mut [u32; 8] {
     (&mut lent[..8]).try_into().unwrap()
 }
 
-fn pairs<P: Copy + Into<(u32, u32)>>(found: &[P]) -> Answer {
+fn listed<L: Listed>(found: &[L]) -> Answer {
     Answer { numbers: vec![found.len() as u32], first: flat(found), second: vec![] }
 }
 
-fn with_end<P: Copy + Into<(u32, u32)>>(found: &[P], ended: Ended) -> Answer {
-    let mut answer = pairs(found);
+fn with_end<L: Listed>(found: &[L], ended: Ended) -> Answer {
+    let mut answer = listed(found);
     answer.numbers.extend(match ended {
         Ended::Done { openings } => [0, openings],
         Ended::Spent { allowance } => [1, allowance],

@@ -12,16 +12,26 @@ use std::ops::RangeInclusive;
 /// The refusals that the model gave; 0 stands for an answer. A test looks whether it met those that it is for.
 pub type Met = BTreeSet<u32>;
 
+/// How many numbers an answer has for each document.
+fn numbers_each(question: &Question) -> usize {
+    match question {
+        Question::List { .. } | Question::Greedy { .. } | Question::Probing { .. } => 3,
+        Question::Conjunction { .. } | Question::Weighted { .. } => 2,
+        _ => 1,
+    }
+}
+
 /// How many numbers a question needs in the two lent slices.
 pub fn needed(library: &Library, question: &Question) -> Lent {
     let documents = library.documents as usize;
     let (first, second) = match question {
         Question::Read => (library.entries.len(), library.lengths.len()),
-        Question::List { .. } | Question::Conjunction { .. } => (2 * documents, 0),
-        Question::Boolean { .. } => (documents, 0),
+        Question::List { .. } | Question::Conjunction { .. } | Question::Boolean { .. } => {
+            (numbers_each(question) * documents, 0)
+        }
         Question::RarestFirst { .. } => (8, 0),
         Question::Greedy { k, .. } | Question::Probing { k, .. } | Question::Weighted { k, .. } => {
-            (2 * documents.min(*k as usize), 4 * documents)
+            (numbers_each(question) * documents.min(*k as usize), 4 * documents)
         }
         _ => (0, 0),
     };
@@ -67,9 +77,8 @@ fn as_given(question: &Question, mut right: Result<Answer, u32>) -> Result<Answe
 
 fn compare_lent(archive: &Archive, library: &Library, question: &Question, slices: Lent) {
     let mut scratch = Scratch::new(slices.first, slices.second);
-    if !matches!(question, Question::Read | Question::Boolean { .. } | Question::RarestFirst { .. }) {
-        scratch.first.truncate(slices.first / 2 * 2); // pairs are lent
-    }
+    let each = numbers_each(question);
+    scratch.first.truncate(slices.first / each * each); // whole documents are lent
     let size = Lent { first: scratch.first.len(), second: scratch.second.len() };
     let right = answer(library, question, size);
     let after = scratch.after(&right);

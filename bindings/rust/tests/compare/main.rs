@@ -8,6 +8,8 @@ mod compare;
 mod damage;
 mod expressions;
 mod faults;
+mod first_places;
+mod found;
 mod header;
 mod library;
 mod orders;

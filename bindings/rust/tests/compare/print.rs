@@ -65,6 +65,7 @@ fn the_small_library() -> Result<(), Refusal> {
     assert_eq!((archive.select(0, 2)?, archive.select(0, 3)?), (7, 8));
     assert_eq!(archive.quantile(Entries(0..8), 4)?, 2);
     assert_eq!(archive.quantile(Terms(0..=2), 7)?, 3);
+    assert_eq!(archive.list(Entries(3..8))?, [(0, 1, 7), (1, 1, 5), (2, 1, 4), (3, 2, 3)]);
     assert_eq!(archive.conjunction(&[0, 2])?, [(0, 2), (1, 2), (3, 3)]);
     assert_eq!(archive.conjunction(&[0, 0])?, [(0, 1), (1, 1), (3, 1)]);
     assert!(archive.conjunction(&[0, 1])?.is_empty());
@@ -77,12 +78,13 @@ fn top_k_of_the_small_library() -> Result<(), Refusal> {
     let bytes = write(&[3, 1, 0, 3, 2, 1, 3, 0], &[3, 0, 5], 4)?;
     let archive = Archive::open(&bytes)?;
     let (done, spent) = (|openings| Ended::Done { openings }, |allowance| Ended::Spent { allowance });
-    let cases: [(_, _, _, &[(u32, u32)], _); 6] = [
-        (0..8, 2, 9, &[(3, 3), (0, 2)], done(3)),
+    let cases: [(_, _, _, &[_], _); 7] = [
+        (0..8, 2, 9, &[(3, 3, 0), (0, 2, 2)], done(3)),
         (0..8, 1, 2, &[], spent(2)),
-        (1..4, 3, 2, &[(0, 1), (1, 1)], spent(2)),
-        (1..4, 3, 3, &[(0, 1), (1, 1), (3, 1)], done(3)),
-        (3..5, 1, 2, &[(2, 1)], done(2)),
+        (1..4, 3, 2, &[(0, 1, 2), (1, 1, 1)], spent(2)),
+        (1..4, 3, 3, &[(0, 1, 2), (1, 1, 1), (3, 1, 3)], done(3)),
+        (3..5, 1, 2, &[(2, 1, 4)], done(2)),
+        (3..8, 2, 9, &[(3, 2, 3), (0, 1, 7)], done(3)),
         (4..4, 5, 0, &[], done(0)),
     ];
     for (range, k, allowance, documents, ended) in cases {
@@ -90,6 +92,7 @@ fn top_k_of_the_small_library() -> Result<(), Refusal> {
         assert_eq!(got.0, documents, "{range:?}, k {k}, allowance {allowance}");
         assert_eq!(got.1, ended, "{range:?}, k {k}, allowance {allowance}");
     }
+    assert_eq!(archive.probing(Entries(1..4), 3)?, [(0, 1, 2), (1, 1, 1), (3, 1, 3)]);
     Ok(())
 }
 
@@ -177,7 +180,7 @@ fn sets_of_the_small_library() -> Result<(), Refusal> {
 fn one_document_has_no_rows() -> Result<(), Refusal> {
     let bytes = write(&[0; 3], &[3], 1)?;
     let (documents, ended) = Archive::open(&bytes)?.greedy(Entries(0..3), 1, 0)?;
-    assert_eq!(documents, [(0, 3)]);
+    assert_eq!(documents, [(0, 3, 0)]);
     assert_eq!(ended, Ended::Done { openings: 0 });
     Ok(())
 }

@@ -50,6 +50,13 @@ pub struct Answer {
 
 pub type Pairs = Vec<(u32, u32)>;
 
+/// A range: where it starts, and its entries.
+#[derive(Clone, Copy)]
+pub struct Part<'a> {
+    pub start: usize,
+    pub entries: &'a [u32],
+}
+
 /// What the library answers, or the number of the refusal: the lowest that applies, but 18 before 11 and 12, and 19 before
 /// 11.
 pub fn answer(library: &Library, question: &Question, lent: Lent) -> Result<Answer, u32> {
@@ -60,8 +67,16 @@ pub fn answer(library: &Library, question: &Question, lent: Lent) -> Result<Answ
         Question::RankSet { set, place } => one(rank_set(library, set, *place)),
         Question::Select { document, j } => one(select(library, *document, *j)),
         Question::Quantile { span, r } => one(quantile(library, *span, *r)),
-        Question::List { span } => list(library, listing(part(library, *span)?, library.documents), lent),
-        Question::Conjunction { terms } => list(library, conjunction(library, terms)?, lent),
+        Question::List { span } => {
+            let range = part(library, *span)?;
+            enough(lent.first, 3 * library.documents as usize, 12)?;
+            Ok(listed(&with_places(range, &listing(range.entries, library.documents))))
+        }
+        Question::Conjunction { terms } => {
+            let found = conjunction(library, terms)?;
+            enough(lent.first, 2 * library.documents as usize, 12)?;
+            Ok(listed(&as_pairs(&found)))
+        }
         Question::Boolean { question } => {
             let found = boolean(library, question)?;
             enough(lent.first, library.documents as usize, 12)?;
@@ -74,19 +89,19 @@ pub fn answer(library: &Library, question: &Question, lent: Lent) -> Result<Answ
         Question::RarestFirst { terms } => rarest_first(library, terms).map(order),
         Question::Greedy { span, k, allowance } => {
             let range = part(library, *span)?;
-            top_k_room(library, *k, lent)?;
+            top_k_room(library, 3, *k, lent)?;
             Ok(greedy(library, range, *k, *allowance))
         }
         Question::Probing { span, k } => {
             let range = part(library, *span)?;
-            top_k_room(library, *k, lent)?;
+            top_k_room(library, 3, *k, lent)?;
             Ok(probing(library, range, *k))
         }
         Question::Weighted { terms, k, allowance } => {
             let weighed = weigh(library, terms)?;
-            top_k_room(library, *k, lent)?;
+            top_k_room(library, 2, *k, lent)?;
             let full = ranked(weighed.listing(), *k);
-            Ok(with_allowance(library, full, &weighed.nodes(), *allowance))
+            Ok(with_allowance(library, full, &weighed.nodes(), *allowance, as_pairs))
         }
     }
 }
@@ -103,12 +118,6 @@ pub fn enough(lent: usize, room: usize, refusal: u32) -> Result<(), u32> {
     Ok(())
 }
 
-/// Pairs of all documents that there may be, in a slice that is long enough.
-fn list(library: &Library, pairs: Pairs, lent: Lent) -> Result<Answer, u32> {
-    enough(lent.first, 2 * library.documents as usize, 12)?;
-    Ok(listed(pairs))
-}
-
 /// An answer of single numbers: how many, and these.
 pub fn singles(found: &[u32]) -> Answer {
     Answer { numbers: vec![found.len() as u32], first: found.to_vec(), second: vec![] }
@@ -121,13 +130,20 @@ fn order(terms: Vec<u32>) -> Answer {
     answer
 }
 
-/// An answer of pairs: how many, and the pairs one number after the other.
-pub fn listed(pairs: Pairs) -> Answer {
-    Answer {
-        numbers: vec![pairs.len() as u32],
-        first: pairs.iter().flat_map(|pair| [pair.0, pair.1]).collect(),
-        second: vec![],
-    }
+/// The numbers of each document: itself, and its count or score.
+pub fn as_pairs(pairs: &[(u32, u32)]) -> Vec<Vec<u32>> {
+    pairs.iter().map(|pair| vec![pair.0, pair.1]).collect()
+}
+
+/// The numbers of each document of a range: itself, its count, and the first place of the range with it, counted from entry 0 of the list.
+pub fn with_places(range: Part, pairs: &[(u32, u32)]) -> Vec<Vec<u32>> {
+    let place = |document: u32| range.start + range.entries.iter().position(|entry| *entry == document).unwrap();
+    pairs.iter().map(|pair| vec![pair.0, pair.1, place(pair.0) as u32]).collect()
+}
+
+/// An answer of several numbers a document: how many documents, and these one after the other.
+pub fn listed(documents: &[Vec<u32>]) -> Answer {
+    Answer { numbers: vec![documents.len() as u32], first: documents.concat(), second: vec![] }
 }
 
 fn read(library: &Library, lent: Lent) -> Result<Answer, u32> {
@@ -174,7 +190,7 @@ fn select(library: &Library, document: u32, j: u32) -> Result<u32, u32> {
 }
 
 fn quantile(library: &Library, span: Span, r: u32) -> Result<u32, u32> {
-    let mut sorted = part(library, span)?.to_vec();
+    let mut sorted = part(library, span)?.entries.to_vec();
     sorted.sort();
     sorted.get(r as usize).copied().ok_or(11)
 }
@@ -188,8 +204,8 @@ fn term_range(library: &Library, first: u32, last: u32) -> Result<(usize, usize)
     Ok((before(first as usize), before(last as usize + 1)))
 }
 
-/// The entries of a range.
-pub fn part(library: &Library, span: Span) -> Result<&[u32], u32> {
+/// A range of the library's entries.
+pub fn part(library: &Library, span: Span) -> Result<Part<'_>, u32> {
     let (a, b) = match span {
         Span::Entries(a, b) => (a as usize, b as usize),
         Span::Terms(first, last) => term_range(library, first, last)?,
@@ -197,7 +213,7 @@ pub fn part(library: &Library, span: Span) -> Result<&[u32], u32> {
     if a > b || b > library.entries.len() {
         return Err(11);
     }
-    Ok(&library.entries[a..b])
+    Ok(Part { start: a, entries: &library.entries[a..b] })
 }
 
 /// The count of each number below `size` in the range.
@@ -230,7 +246,7 @@ fn conjunction(library: &Library, given: &[u32]) -> Result<Pairs, u32> {
     let mut under_each = Vec::new();
     for term in chosen(library, given)? {
         let range = part(library, Span::Terms(term, term))?;
-        under_each.push(counts(range, library.documents));
+        under_each.push(counts(range.entries, library.documents));
     }
     let of = |document: u32| under_each.iter().map(move |counts| counts[document as usize]);
     Ok((0..library.documents)

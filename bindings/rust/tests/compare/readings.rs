@@ -114,7 +114,7 @@ pub fn documents(library: &Library, tree: &Tree) -> BTreeSet<u32> {
     match tree {
         Tree::Term(term) => {
             let term = u32::from(*term);
-            part(library, Span::Terms(term, term)).unwrap().iter().copied().collect()
+            part(library, Span::Terms(term, term)).unwrap().entries.iter().copied().collect()
         }
         Tree::Not(denied) => &(0..library.documents).collect() - &documents(library, denied),
         Tree::And(first, second) => &documents(library, first) & &documents(library, second),

@@ -1,9 +1,10 @@
 //! The model of top-k, after `docs/FORMAT.md`: all documents sorted, and the need of an allowance by its definition.
 use crate::library::{height, Library};
-use crate::questions::{counts, enough, listed, listing, Answer, Lent, Pairs};
+use crate::questions::{counts, enough, listed, listing, with_places, Answer, Lent, Pairs, Part};
 
-pub fn top_k_room(library: &Library, k: u32, lent: Lent) -> Result<(), u32> {
-    enough(lent.first, 2 * k.min(library.documents) as usize, 12)?;
+/// The refusal, where too few numbers are lent for an answer of so many a document.
+pub fn top_k_room(library: &Library, numbers: usize, k: u32, lent: Lent) -> Result<(), u32> {
+    enough(lent.first, numbers * k.min(library.documents) as usize, 12)?;
     enough(lent.second, 4 * library.documents as usize, 13)
 }
 
@@ -51,17 +52,25 @@ fn need(nodes: &[(u32, u32)], front: &[(u32, u32)]) -> u32 {
 }
 
 /// The whole answer, by larger count.
-pub fn probing(library: &Library, range: &[u32], k: u32) -> Answer {
-    with_work(listed(full_list(range, library.documents, k)), library)
+pub fn probing(library: &Library, range: Part, k: u32) -> Answer {
+    with_work(listed(&with_places(range, &full_list(range.entries, library.documents, k))), library)
 }
 
-pub fn greedy(library: &Library, range: &[u32], k: u32, allowance: u32) -> Answer {
-    let full = full_list(range, library.documents, k);
-    with_allowance(library, full, &nodes(range, library.documents), allowance)
+pub fn greedy(library: &Library, range: Part, k: u32, allowance: u32) -> Answer {
+    let full = full_list(range.entries, library.documents, k);
+    let nodes = nodes(range.entries, library.documents);
+    with_allowance(library, full, &nodes, allowance, |front| with_places(range, front))
 }
 
-/// 'Done' with the full list and its need, or 'spent' with the longest front part that the allowance covers.
-pub fn with_allowance(library: &Library, mut full: Pairs, nodes: &[(u32, u32)], allowance: u32) -> Answer {
+/// 'Done' with the full list and its need, or 'spent' with the longest front part that the allowance covers; `numbers` gives those of each
+/// document.
+pub fn with_allowance(
+    library: &Library,
+    mut full: Pairs,
+    nodes: &[(u32, u32)],
+    allowance: u32,
+    numbers: impl FnOnce(&[(u32, u32)]) -> Vec<Vec<u32>>,
+) -> Answer {
     let needed = need(nodes, &full);
     let (spent, number) = if needed <= allowance {
         (0, needed)
@@ -71,7 +80,7 @@ pub fn with_allowance(library: &Library, mut full: Pairs, nodes: &[(u32, u32)], 
         full.truncate(front);
         (1, allowance)
     };
-    let mut found = listed(full);
+    let mut found = listed(&numbers(&full));
     found.numbers.extend([spent, number]);
     with_work(found, library)
 }

@@ -17,7 +17,7 @@ pub fn weight(documents: u32, df: u32) -> u32 {
 pub fn rarest_first(library: &Library, given: &[u32]) -> Result<Vec<u32>, u32> {
     let mut left = Vec::new(); // with how many entries each has; ascending by number
     for term in chosen(library, given)? {
-        left.push((term, part(library, Span::Terms(term, term))?.len()));
+        left.push((term, part(library, Span::Terms(term, term))?.entries.len()));
     }
     let mut order = Vec::new();
     while let Some(fewest) = left.iter().map(|of| of.1).min() {
@@ -36,7 +36,7 @@ pub fn weigh(library: &Library, given: &[u32]) -> Result<Weighed, u32> {
     let size = 1 << height(library.documents);
     let mut weighed = vec![(0, 0); size as usize];
     for term in terms {
-        let counts = counts(part(library, Span::Terms(term, term))?, size);
+        let counts = counts(part(library, Span::Terms(term, term))?.entries, size);
         let df = counts.iter().filter(|count| **count > 0).count();
         let weight = weight(library.documents, df as u32);
         for (of, count) in weighed.iter_mut().zip(counts) {
