@@ -20,11 +20,12 @@ typedef size_t rank_set_fn(LEVELS, const uint32_t *set, size_t size, size_t plac
 typedef size_t select_fn(LEVELS, size_t d, size_t i);
 // The document.
 typedef size_t quantile_fn(LEVELS, size_t a, size_t b, size_t r);
-// The following answer how many pairs they wrote.
+// The following answer how many documents they wrote. The listing, greedy and probing write three numbers for each: document, count, and the place of
+// its first entry in the range, counted from entry 0; the conjunction and weighted write pairs of document and count or score.
 typedef size_t list_fn(LEVELS, size_t documents, size_t a, size_t b, uint32_t *answers, size_t answers_len);
 // Of eight chosen numbers the first `size` are the terms; a repeated one counts once.
 typedef size_t conjunction_fn(LEVELS, size_t documents, size_t terms, const uint32_t *chosen, uint32_t size, uint32_t *answers, size_t answers_len);
-// The pairs in the low 32 bits, the openings from bit 32 on, and in bit 63 whether the allowance was spent.
+// The documents in the low 32 bits, the openings from bit 32 on, and in bit 63 whether the allowance was spent.
 typedef uint64_t greedy_fn(LEVELS, size_t documents, size_t a, size_t b, uint32_t k, uint32_t allowance, uint32_t *answers, size_t answers_len, uint32_t *work, size_t work_len);
 typedef size_t probing_fn(LEVELS, size_t documents, size_t a, size_t b, uint32_t k, uint32_t *answers, size_t answers_len, uint32_t *work, size_t work_len);
 // The terms are as those of the conjunction; the answer is as that of greedy.

@@ -23,7 +23,8 @@ struct Query {
 
 enum Op { OPEN, WRITE, READ, ACCESS, RANK, RANK_SET, RANKS, SELECT, QUANTILE, LIST, CONJUNCTION, GREEDY, PROBING, WEIGHTED, BOOLEAN, RAREST_FIRST, OPS };
 
-// The low 32 bits of a result are compared: a number, or how many pairs of document and count (weighted: score), documents (boolean) or terms (rarest first) were written.
+// The low 32 bits of a result are compared: a number, or how many documents or terms (rarest first) were written. With a document stand its count and first
+// place (list, greedy, probing), its count (conjunction) or its score (weighted).
 typedef uint64_t op_fn(void *index, const Query &q, uint32_t *answers);
 
 struct Contender {
@@ -32,4 +33,5 @@ struct Contender {
   void (*drop)(void *index);
   size_t (*bytes)(void *index); // rows and what serves their ranks, without the term table
   op_fn *ops[OPS];              // null where it has none
+  bool no_places = false;       // whether list, greedy and probing write pairs, as a library from before M-108 does
 };

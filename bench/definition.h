@@ -1,7 +1,8 @@
-// What select, the count of a set, the conjunction, the searches, questions with and, or, not and the order of terms answer by the definitions in docs/FORMAT.md: from the list alone, sharing nothing with a contender.
+// What select, the count of a set, the listing, the conjunction, the searches, questions with and, or, not and the order of terms answer by the definitions in docs/FORMAT.md: from the list alone, sharing nothing with a contender.
 #pragma once
 #include <algorithm>
 #include <iterator>
+#include <map>
 #include <set>
 #include <stddef.h>
 #include <stdint.h>
@@ -17,6 +18,15 @@ inline Numbers places_of(const Numbers &list, uint32_t d) {
     if (list[i] == d) places.push_back((uint32_t)i);
   places.push_back((uint32_t)list.size());
   return places;
+}
+
+// Pairs of document and count with the place of the document's first entry from a to b behind each. What a map has of a document stays.
+inline Numbers with_first_places(const Numbers &pairs, const Numbers &list, size_t a, size_t b) {
+  std::map<uint32_t, uint32_t> firsts;
+  for (size_t i = a; i < b; i++) firsts.emplace(list[i], (uint32_t)i);
+  Numbers threes;
+  for (size_t i = 0; i < pairs.size(); i += 2) threes.insert(threes.end(), {pairs[i], pairs[i + 1], firsts.at(pairs[i])});
+  return threes;
 }
 
 typedef std::set<uint32_t> Documents;
@@ -108,7 +118,7 @@ struct Sums {
     added++;
   }
 
-  // The conjunction: the documents with an entry in all that was added, ascending, with their entries.
+  // The conjunction, or the listing of one range: the documents with an entry in all that was added, ascending, with their entries.
   Numbers common() const {
     Numbers pairs;
     for (uint32_t d = 0; d < documents; d++)
@@ -143,17 +153,17 @@ struct Sums {
   }
 };
 
-// How many of the nodes a front part with the last pair d, c needs.
+// How many of the nodes a front part needs whose last document is d, with the score c.
 inline uint64_t need_of(const std::vector<Inner> &nodes, uint32_t d, uint32_t c) {
   uint64_t needed = 0;
   for (const Inner &v : nodes) needed += v.score > c || (v.score == c && v.start <= d);
   return needed;
 }
 
-// What a search answers under an allowance, from the full list: as abi.h has it.
-inline uint64_t bounded_answer(const std::vector<Inner> &nodes, uint32_t allowance, const uint32_t *full, size_t size) {
+// What a search answers under an allowance, as abi.h has it: from the full list, with so many numbers for a document.
+inline uint64_t bounded_answer(const std::vector<Inner> &nodes, uint32_t allowance, const uint32_t *full, size_t width, size_t size) {
   for (size_t m = size;; m--) {
-    uint64_t need = m ? need_of(nodes, full[2 * m - 2], full[2 * m - 1]) : 0;
+    uint64_t need = m ? need_of(nodes, full[width * (m - 1)], full[width * (m - 1) + 1]) : 0;
     if (need <= allowance) return m == size ? need << 32 | m : (uint64_t)1 << 63 | (uint64_t)allowance << 32 | m;
   }
 }

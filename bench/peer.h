@@ -10,6 +10,7 @@
 
 namespace {
 typedef uint8_t u8;
+typedef uint16_t u16;
 typedef uint32_t u32;
 typedef uint64_t u64;
 #define INLINE static inline __attribute__((always_inline))
@@ -143,16 +144,15 @@ INLINE u32 pick(u32 one, u32 x, u32 y) { return one ? x : y; }
 
 // A node's bounds in its level, with a range in it.
 struct Span { u32 start, lo, hi, end; };
-struct Halves { Span low, high; };
+// Both halves, and the row's ones before the range.
+struct Halves { Span low, high; u32 ones; };
 
 INLINE Halves halve(const Levels &t, u32 j, const Span &s) {
   Row r = row_of(t, j);
   u32 before = rank1(r, s.start), lo = rank1_from(r, s.start, before, s.lo);
   u32 hi = rank1_from(r, s.lo, lo, s.hi), all = rank1_from(r, s.hi, hi, s.end);
-  u32 middle = s.end - (all - before);
-  lo -= before;
-  hi -= before;
-  return {{s.start, s.lo - lo, s.hi - hi, middle}, {middle, middle + lo, middle + hi, s.end}};
+  u32 middle = s.end - (all - before), low = lo - before, high = hi - before;
+  return {{s.start, s.lo - low, s.hi - high, middle}, {middle, middle + low, middle + high, s.end}, lo};
 }
 
 INLINE Span half(const Halves &h, u32 one) {

@@ -35,6 +35,7 @@ PEER(checked)
 
 namespace {
 const uint32_t NO_BOUND = 0xffffffff;
+const uint32_t LENT = 0xa5a5a5a5; // in lent slices, before a question
 
 void fail(const char *format, const char *a, const char *b) {
   fprintf(stderr, format, a, b);
@@ -102,7 +103,7 @@ template <const Operations &F> struct Tree {
   static uint64_t quantile(void *p, const Query &q, uint32_t *) { Archive &x = *(Archive *)p; return F.quantile(AT(x), q.a, q.b, q.x); }
   static uint64_t list(void *p, const Query &q, uint32_t *answers) {
     Archive &x = *(Archive *)p;
-    return F.list(AT(x), x.documents, q.a, q.b, answers, 2 * x.documents);
+    return F.list(AT(x), x.documents, q.a, q.b, answers, 3 * x.documents);
   }
   static uint64_t conjunction(void *p, const Query &q, uint32_t *answers) {
     Archive &x = *(Archive *)p;
@@ -110,11 +111,11 @@ template <const Operations &F> struct Tree {
   }
   static uint64_t greedy(void *p, const Query &q, uint32_t *answers) {
     Archive &x = *(Archive *)p;
-    return F.greedy(AT(x), x.documents, q.a, q.b, q.k, q.allowance, answers, 2 * x.documents, x.work.data(), x.work.size());
+    return F.greedy(AT(x), x.documents, q.a, q.b, q.k, q.allowance, answers, 3 * x.documents, x.work.data(), x.work.size());
   }
   static uint64_t probing(void *p, const Query &q, uint32_t *answers) {
     Archive &x = *(Archive *)p;
-    return F.probing(AT(x), x.documents, q.a, q.b, q.k, answers, 2 * x.documents, x.work.data(), x.work.size());
+    return F.probing(AT(x), x.documents, q.a, q.b, q.k, answers, 3 * x.documents, x.work.data(), x.work.size());
   }
   static uint64_t weighted(void *p, const Query &q, uint32_t *answers) {
     Archive &x = *(Archive *)p;
@@ -144,6 +145,20 @@ uint64_t sum_words(void *p, const Query &, uint32_t *) {
   return 0;
 }
 
+#ifdef BEFORE
+// Whether a listing of one document leaves the third number as it was.
+bool lists_pairs(const Contender &c) {
+  const uint32_t document = 0, length = 1;
+  uint32_t answers[3] = {LENT, LENT, LENT};
+  Query q = Query();
+  q.b = 1;
+  void *index = c.build({&document, 1, &length, 1, 1});
+  c.ops[LIST](index, q, answers);
+  c.drop(index);
+  return answers[2] == LENT;
+}
+#endif
+
 // The first is verified against; the second and third are what ratios are to.
 const size_t SCAN = 0, TIGHT = 1, PLAIN = 2;
 std::vector<Contender> contenders() {
@@ -152,6 +167,7 @@ std::vector<Contender> contenders() {
 #ifdef BEFORE
   all.push_back(Tree<before>::contender("before"));
   for (Op op : std::initializer_list<Op>{BEFORE_LACKS}) all.back().ops[op] = nullptr;
+  all.back().no_places = lists_pairs(all.back());
 #endif
 #ifdef SDSL
   Contender two[2];
@@ -244,21 +260,38 @@ void expect(bool right, const Contender &c, const char *what) {
   if (!right) fail("%s: wrong %s", c.name, what);
 }
 
-// What a question adds up, each different term once. The score of greedy top-k is the count.
+bool adds_range(Op op) { return op == LIST || op == GREEDY || op == PROBING; }
+bool adds_terms(Op op) { return op == CONJUNCTION || op == WEIGHTED; }
+bool takes_terms(Op op) { return adds_terms(op) || op == RAREST_FIRST; }
+bool takes_set(Op op) { return op == RANK_SET || op == RANKS; }
+
+// What a question adds up, each different term once. In a range the score is the count.
 Sums sums_of(const Data &data, Op op, const Query &q) {
   Sums s(data.documents);
-  if (op == GREEDY) s.add(data.entries, q.a, q.b, false);
+  if (adds_range(op)) s.add(data.entries, q.a, q.b, false);
   else
     for (uint32_t t : different(q.chosen, q.size)) s.add(data.entries, data.starts[t], data.starts[t + 1], true);
   return s;
 }
 
-bool adds_terms(Op op) { return op == CONJUNCTION || op == WEIGHTED; }
-bool takes_terms(Op op) { return adds_terms(op) || op == RAREST_FIRST; }
-bool takes_set(Op op) { return op == RANK_SET || op == RANKS; }
+// All that is written where there is no bound: of a range with first places.
+Numbers full_answer(const Data &data, Op op, const Query &q) {
+  Sums sums = sums_of(data, op, q);
+  Numbers pairs = op == LIST || op == CONJUNCTION ? sums.common() : sums.list(q.k);
+  return adds_range(op) ? with_first_places(pairs, data.entries, q.a, q.b) : pairs;
+}
 
-// How many numbers are written for each that the result counts: a pair, a document or a term, or none.
-size_t width(Op op) { return op == BOOLEAN || op == RAREST_FIRST ? 1 : op >= LIST ? 2 : 0; }
+// How many numbers are written for each that the result counts: a document with its count and first place, a pair, a document or a term, or none.
+size_t width(Op op) { return adds_range(op) ? 3 : adds_terms(op) ? 2 : op == BOOLEAN || op == RAREST_FIRST ? 1 : 0; }
+size_t width(const Contender &c, Op op) { return adds_range(op) && c.no_places ? 2 : width(op); }
+
+// What a contender leaves in a slice of this size, from what is right: the first places are left out where it has none.
+Numbers left_by(const Contender &c, Op op, const Numbers &right, size_t documents, size_t size) {
+  Numbers left(size, LENT);
+  size_t wide = width(op), kept = width(c, op);
+  for (size_t i = 0; i < documents; i++) std::copy_n(right.begin() + (long)(wide * i), kept, left.begin() + (long)(kept * i));
+  return left;
+}
 
 // The documents that match a question.
 Numbers matching_of(const Data &data, const Query &q) {
@@ -387,37 +420,38 @@ Query again(Query q, Again way) {
   return q;
 }
 
-// Under an allowance a search answers what the definition says, whatever the lent slices held; it writes its pairs and 4 * N times 0, and no more.
+// Under an allowance a search answers what the definition says, whatever the lent slices held; it writes its documents and 4 * N times 0, and no more.
 void verify_bounded(const std::vector<Contender> &all, const Data &data, Op op, Query q, const Numbers &right, size_t size) {
-  const uint32_t before = 0xa5a5a5a5;
   std::vector<Inner> nodes = sums_of(data, op, q).inner_nodes();
-  uint32_t need = size ? (uint32_t)need_of(nodes, right[2 * size - 2], right[2 * size - 1]) : 0;
+  uint32_t need = (uint32_t)(bounded_answer(nodes, NO_BOUND, right.data(), width(op), size) >> 32);
   for (uint32_t allowance : {NO_BOUND, below(60), 0u, need, need - (need != 0)}) {
     q.allowance = allowance;
-    uint64_t answer = bounded_answer(nodes, allowance, right.data(), size);
-    Numbers pairs(right.size(), before), cleared(4 * data.documents + 4, before);
-    std::copy(right.begin(), right.begin() + 2 * (uint32_t)answer, pairs.begin());
+    uint64_t answer = bounded_answer(nodes, allowance, right.data(), width(op), size);
+    Numbers cleared(4 * data.documents + 4, LENT);
     std::fill(cleared.begin(), cleared.begin() + 4 * data.documents, 0);
     for (size_t c = 1; c < all.size(); c++) {
       if (!all[c].ops[op] || !is_tree(all[c])) continue;
-      Numbers got(right.size(), before), &work = ((Archive *)data.indexes[c])->work;
-      std::fill(work.begin(), work.end(), before);
+      Numbers got(right.size(), LENT), &work = ((Archive *)data.indexes[c])->work;
+      std::fill(work.begin(), work.end(), LENT);
       expect(all[c].ops[op](data.indexes[c], q, got.data()) == answer, all[c], "search with an allowance");
-      expect(got == pairs, all[c], "pairs of a search with an allowance");
+      expect(got == left_by(all[c], op, right, (uint32_t)answer, got.size()), all[c], "answers of a search with an allowance");
       expect(work == cleared, all[c], "work slice after a search");
     }
   }
 }
 
 void verify_query(const std::vector<Contender> &all, const Data &data, Op op, const Query &q, size_t turn) {
-  Numbers lent(std::max<size_t>(2 * data.documents, 8) + 2, 0xa5a5a5a5), right = lent, got = lent;
+  Numbers lent(std::max<size_t>(3 * data.documents, 8) + 3, LENT), right = lent, got = lent;
   uint64_t expected = all[SCAN].ops[op](data.indexes[SCAN], q, right.data());
   for (size_t c = 1; c < all.size(); c++) {
     if (!all[c].ops[op]) continue;
     uint64_t r = all[c].ops[op](data.indexes[c], q, got.data());
     expect((uint32_t)r == (uint32_t)expected, all[c], NAMES[op]);
-    if (width(op)) expect(std::equal(right.begin(), right.begin() + (long)(width(op) * (uint32_t)expected), got.begin()), all[c], NAMES[op]);
-    if (width(op) == 1) expect(got == right, all[c], "rest of the answer slice");
+    size_t wide = width(all[c], op);
+    Numbers pairs = wide == width(op) ? Numbers() : left_by(all[c], op, right, (uint32_t)expected, lent.size());
+    const Numbers &left = wide == width(op) ? right : pairs;
+    if (wide) expect(std::equal(left.begin(), left.begin() + (long)(wide * (uint32_t)expected), got.begin()), all[c], NAMES[op]);
+    if (wide && !adds_terms(op)) expect(got == left, all[c], "rest of the answer slice");
     got = lent;
   }
   if (width(op) == 1) {
@@ -427,10 +461,9 @@ void verify_query(const std::vector<Contender> &all, const Data &data, Op op, co
     expect(std::equal(full.begin(), full.end(), right.begin()), all[SCAN], NAMES[op]);
   }
   if (takes_set(op)) expect(expected == count_of_set(data.entries, Documents(q.set, q.set + q.size), q.a), all[SCAN], NAMES[op]);
-  if (adds_terms(op)) {
-    Sums sums = sums_of(data, op, q);
-    Numbers full = op == WEIGHTED ? sums.list(q.k) : sums.common();
-    expect(expected == full.size() / 2 && std::equal(full.begin(), full.end(), right.begin()), all[SCAN], NAMES[op]);
+  if (adds_range(op) || adds_terms(op)) {
+    Numbers full = full_answer(data, op, q);
+    expect(expected == full.size() / width(op) && std::equal(full.begin(), full.end(), right.begin()), all[SCAN], NAMES[op]);
   }
   if ((op == GREEDY || op == WEIGHTED) && turn % 2 == 0) verify_bounded(all, data, op, q, right, (size_t)expected);
 }
@@ -518,6 +551,23 @@ void verify_counts(const std::vector<Contender> &all, const Data &data) {
   }
 }
 
+// Ranges of the small library, with the first places: counted from entry 0, and not from the range's start.
+void verify_first_places(const std::vector<Contender> &all, const Data &data) {
+  const struct { Op op; size_t a, b; uint32_t k; Numbers answers; } cases[] = {
+    {LIST, 0, 8, 0, {0, 2, 2, 1, 2, 1, 2, 1, 4, 3, 3, 0}}, {LIST, 3, 8, 0, {0, 1, 7, 1, 1, 5, 2, 1, 4, 3, 2, 3}}, {LIST, 5, 5, 0, {}}, {LIST, 7, 8, 0, {0, 1, 7}},
+    {GREEDY, 0, 8, 2, {3, 3, 0, 0, 2, 2}}, {GREEDY, 3, 8, 2, {3, 2, 3, 0, 1, 7}}, {PROBING, 3, 8, 2, {3, 2, 3, 0, 1, 7}}, {PROBING, 1, 4, 3, {0, 1, 2, 1, 1, 1, 3, 1, 3}},
+  };
+  for (auto &one : cases) {
+    Query q = Query();
+    q.a = one.a;
+    q.b = one.b;
+    q.k = one.k;
+    q.allowance = NO_BOUND;
+    verify_query(all, data, one.op, q, 0);
+    expect(full_answer(data, one.op, q) == one.answers, all[SCAN], "first places");
+  }
+}
+
 // Terms of the small library, which have 3, 0 and 5 entries.
 void verify_orders(const std::vector<Contender> &all, const Data &data) {
   const struct { Numbers terms, order; } cases[] = {
@@ -541,6 +591,7 @@ void verify_small(const std::vector<Contender> &all) {
     if (is_tree(all[c])) expect(((Archive *)data.indexes[c])->len == 74 && !memcmp(((Archive *)data.indexes[c])->bytes, bytes, 74), all[c], "small library");
   verify_readings(all, data);
   verify_counts(all, data);
+  verify_first_places(all, data);
   verify_orders(all, data);
   for (size_t turn = 0; turn < 200; turn++)
     for (int op = ACCESS; op < OPS; op++) verify_op(all, data, (Op)op, turn);
@@ -596,13 +647,13 @@ struct Cell {
 
   double one(size_t c, const Query *q, size_t size, uint64_t *sum) {
     double start = now();
-    *sum = batch(all[c].ops[op], indexes[c], q, size, width(op), answers.data());
+    *sum = batch(all[c].ops[op], indexes[c], q, size, width(all[c], op), answers.data());
     return now() - start;
   }
 
   // So many queries that the tight peer takes about 0.4 ms, unless another takes very long, but no fewer than `least`; and so many rounds that the time is used up.
   void plan(double seconds, size_t least) {
-    answers.resize(2 * 4096 + 2);
+    answers.resize(3 * 4096 + 3);
     times.assign(all.size(), {});
     uint64_t sum = 0, first = 0;
     for (count = 1; 2 * count <= queries.size(); count *= 2) {
@@ -617,7 +668,7 @@ struct Cell {
       if (!all[c].ops[op]) continue;
       double time = one(c, queries.data(), count, &sum);
       if (round == 0) first = sum;
-      if (sum != first) fail("%s: %s differs", all[c].name, name.c_str());
+      if (sum != first && width(all[c], op) == width(op)) fail("%s: %s differs", all[c].name, name.c_str());
       warm[c] = std::min<size_t>(count, (size_t)(1e5 / (time / (double)count)));
       round += time * (1 + (double)warm[c] / (double)count);
     }
@@ -901,7 +952,7 @@ void write_openings(const std::vector<Set> &sets, const std::vector<Contender> &
   FILE *f = fopen(path, "w");
   if (!f) fail("%s cannot be written%s", path, "");
   fprintf(f, "data,k,allowance,openings,documents,spent\n");
-  Numbers answers(2 * DOCUMENTS);
+  Numbers answers(3 * DOCUMENTS);
   for (const Set &set : sets)
     for (uint32_t k : {10u, 100u, DOCUMENTS})
       for (uint32_t allowance = 1; allowance <= 8192; allowance *= 2) {

@@ -1,4 +1,4 @@
-// The plain scan: entries of 16 bits, counted in an array of N counters, or sorted where the range is short.
+// The plain scan: entries of 16 bits, counted in an array of N counters, or sorted where the range is short. First places come with the counts.
 // The other contenders are verified against it. Its top-k is one, under greedy and under probing.
 #include "contender.h"
 #include "question.h"
@@ -10,7 +10,7 @@
 
 namespace {
 struct Scan {
-  std::vector<uint16_t> entries, sorted;
+  std::vector<uint16_t> entries, sorted, firsts;
   std::vector<uint32_t> starts, counts, keys, marks, scores, touched;
   std::vector<uint64_t> scored;
   uint32_t documents, mark;
@@ -21,6 +21,7 @@ void *build(const Library &l) {
   x->entries.assign(l.entries, l.entries + l.n);
   x->documents = l.documents;
   x->sorted.resize(l.documents);
+  x->firsts.resize(l.documents);
   x->counts.resize(l.documents);
   x->keys.resize(l.documents + 1);
   x->marks.resize(l.documents);
@@ -41,6 +42,18 @@ void count(Scan &x, size_t a, size_t b) {
   uint32_t *counts = x.counts.data();
   memset(counts, 0, 4 * x.documents);
   for (size_t i = a; i < b; i++) counts[x.entries[i]]++;
+}
+
+// With first places: backwards, so that the last place written for a document is its first.
+void count_with_firsts(Scan &x, size_t a, size_t b) {
+  uint32_t *counts = x.counts.data();
+  uint16_t *firsts = x.firsts.data();
+  memset(counts, 0, 4 * x.documents);
+  for (size_t i = b; i-- > a;) {
+    uint16_t d = x.entries[i];
+    counts[d]++;
+    firsts[d] = (uint16_t)i;
+  }
 }
 
 uint64_t access(void *p, const Query &q, uint32_t *) { return ((Scan *)p)->entries[q.a]; }
@@ -92,7 +105,37 @@ uint64_t quantile(void *p, const Query &q, uint32_t *) {
   return d;
 }
 
-size_t list_range(Scan &x, size_t a, size_t b, uint32_t *answers) {
+// Of a short range: put(document, count, first place) for each document, ascending, from its entries sorted with their places. How many.
+template <class Put> size_t each_sorted(Scan &x, size_t a, size_t b, Put put) {
+  uint32_t *s = x.keys.data(), *end = s;
+  for (size_t i = a; i < b; i++) *end++ = (uint32_t)x.entries[i] << 16 | (uint32_t)i;
+  std::sort(s, end);
+  size_t found = 0;
+  while (s < end) {
+    uint32_t *from = s;
+    while (s < end && *s >> 16 == *from >> 16) s++;
+    put(found++, *from >> 16, (uint32_t)(s - from), *from & 65535);
+  }
+  return found;
+}
+
+uint64_t list(void *p, const Query &q, uint32_t *answers) {
+  Scan &x = *(Scan *)p;
+  auto put = [=](size_t i, uint32_t d, uint32_t count, uint32_t first) {
+    answers[3 * i] = d;
+    answers[3 * i + 1] = count;
+    answers[3 * i + 2] = first;
+  };
+  if (is_short(x, q.b - q.a)) return each_sorted(x, q.a, q.b, put);
+  size_t found = 0;
+  count_with_firsts(x, q.a, q.b);
+  for (uint32_t d = 0; d < x.documents; d++)
+    if (x.counts[d]) put(found++, d, x.counts[d], x.firsts[d]);
+  return found;
+}
+
+// Pairs of document and count.
+size_t put_pairs(Scan &x, size_t a, size_t b, uint32_t *answers) {
   size_t found = 0;
   if (is_short(x, b - a)) {
     uint16_t *s = x.sorted.data(), *end = std::copy(x.entries.data() + a, x.entries.data() + b, s);
@@ -114,13 +157,11 @@ size_t list_range(Scan &x, size_t a, size_t b, uint32_t *answers) {
   return found;
 }
 
-uint64_t list(void *p, const Query &q, uint32_t *answers) { return list_range(*(Scan *)p, q.a, q.b, answers); }
-
 // Term by term: the sums of the documents that every term so far has.
 uint64_t conjunction(void *p, const Query &q, uint32_t *answers) {
   Scan &x = *(Scan *)p;
   uint32_t terms[8], size = each_once(q.chosen, q.size, terms);
-  size_t found = list_range(x, x.starts[terms[0]], x.starts[terms[0] + 1], answers);
+  size_t found = put_pairs(x, x.starts[terms[0]], x.starts[terms[0] + 1], answers);
   for (size_t t = 1; t < size && found; t++) {
     count(x, x.starts[terms[t]], x.starts[terms[t] + 1]);
     size_t kept = 0;
@@ -135,15 +176,18 @@ uint64_t conjunction(void *p, const Query &q, uint32_t *answers) {
   return found;
 }
 
+// A key has the count, and then the document reversed. In a short range it takes the place of the first of its document's entries, which are done with.
 uint64_t top_k(void *p, const Query &q, uint32_t *answers) {
   Scan &x = *(Scan *)p;
   uint32_t *keys = x.keys.data();
   size_t found = 0;
   if (is_short(x, q.b - q.a)) {
-    found = list_range(x, q.a, q.b, answers);
-    for (size_t i = 0; i < found; i++) keys[i] = answers[2 * i + 1] << 16 | (65535 - answers[2 * i]);
+    found = each_sorted(x, q.a, q.b, [&](size_t i, uint32_t d, uint32_t count, uint32_t first) {
+      keys[i] = count << 16 | (65535 - d);
+      x.firsts[d] = (uint16_t)first;
+    });
   } else {
-    count(x, q.a, q.b);
+    count_with_firsts(x, q.a, q.b);
     for (uint32_t d = 0; d < x.documents; d++) {
       keys[found] = x.counts[d] << 16 | (65535 - d);
       found += x.counts[d] != 0;
@@ -153,8 +197,10 @@ uint64_t top_k(void *p, const Query &q, uint32_t *answers) {
   if (4 * k < found) std::partial_sort(keys, keys + k, keys + found, std::greater<uint32_t>());
   else std::sort(keys, keys + found, std::greater<uint32_t>());
   for (size_t i = 0; i < k; i++) {
-    answers[2 * i] = 65535 - (keys[i] & 65535);
-    answers[2 * i + 1] = keys[i] >> 16;
+    uint32_t d = 65535 - (keys[i] & 65535);
+    answers[3 * i] = d;
+    answers[3 * i + 1] = keys[i] >> 16;
+    answers[3 * i + 2] = x.firsts[d];
   }
   return k;
 }

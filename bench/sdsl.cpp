@@ -9,7 +9,8 @@
 #include <vector>
 
 namespace {
-template <class Tree> struct Peer {
+// INDEXED: whether the tree has an index for select.
+template <class Tree, bool INDEXED> struct Peer {
   struct Waiting {
     uint64_t key; // the count, then the start reversed
     typename Tree::node_type node;
@@ -66,14 +67,28 @@ template <class Tree> struct Peer {
   static uint64_t quantile(void *p, const Query &q, uint32_t *) {
     return sdsl::quantile_freq(((Index *)p)->tree, q.a, q.b - 1, q.x).first;
   }
+  // Where d first stands from a to b, which it does, with so many entries before a. Without an index select goes through the rows from their start: then
+  // the range is halved by rank.
+  static uint32_t first_place(const Tree &tree, size_t a, size_t b, uint32_t d, size_t before) {
+    if (INDEXED) return (uint32_t)tree.select(before + 1, d);
+    while (b - a > 1) {
+      size_t middle = (a + b) / 2;
+      if (tree.rank(middle, d) == before) a = middle;
+      else b = middle;
+    }
+    return (uint32_t)a;
+  }
+  // The rank before the range comes with the symbols.
   static uint64_t list(void *p, const Query &q, uint32_t *answers) {
     Index &x = *(Index *)p;
     if (q.a == q.b) return 0;
     typename Tree::size_type found = 0;
     sdsl::interval_symbols(x.tree, q.a, q.b, found, x.symbols, x.below, x.upto);
     for (size_t i = 0; i < found; i++) {
-      answers[2 * i] = (uint32_t)x.symbols[i];
-      answers[2 * i + 1] = (uint32_t)(x.upto[i] - x.below[i]);
+      uint32_t d = (uint32_t)x.symbols[i];
+      answers[3 * i] = d;
+      answers[3 * i + 1] = (uint32_t)(x.upto[i] - x.below[i]);
+      answers[3 * i + 2] = first_place(x.tree, q.a, q.b, d, x.below[i]);
     }
     return found;
   }
@@ -110,8 +125,10 @@ template <class Tree> struct Peer {
       Waiting w = queue.back();
       queue.pop_back();
       if (tree.is_leaf(w.node)) {
-        answers[2 * listed] = (uint32_t)tree.sym(w.node);
-        answers[2 * listed++ + 1] = (uint32_t)(w.key >> 32);
+        uint32_t d = (uint32_t)tree.sym(w.node);
+        answers[3 * listed] = d;
+        answers[3 * listed + 1] = (uint32_t)(w.key >> 32);
+        answers[3 * listed++ + 2] = first_place(tree, q.a, q.b, d, tree.rank(q.a, d));
         continue;
       }
       auto nodes = tree.expand(w.node);
@@ -148,8 +165,10 @@ template <class Tree> struct Peer {
     }
     std::sort(heap.begin(), heap.end(), after);
     for (size_t i = 0; i < heap.size(); i++) {
-      answers[2 * i] = 65535 - (heap[i] & 65535);
-      answers[2 * i + 1] = heap[i] >> 16;
+      uint32_t d = 65535 - (heap[i] & 65535);
+      answers[3 * i] = d;
+      answers[3 * i + 1] = heap[i] >> 16;
+      answers[3 * i + 2] = first_place(x.tree, q.a, q.b, d, x.tree.rank(q.a, d));
     }
     return heap.size();
   }
@@ -178,6 +197,6 @@ typedef sdsl::wt_int<sdsl::bit_vector, sdsl::rank_support_v5<1>, sdsl::select_su
 }
 
 extern "C" void SDSL_ENTRY(Contender *two) {
-  two[0] = Peer<Default>::contender("sdsl wt_int" SDSL_SUFFIX);
-  two[1] = Peer<Small>::contender("sdsl wt_int v5" SDSL_SUFFIX);
+  two[0] = Peer<Default, true>::contender("sdsl wt_int" SDSL_SUFFIX);
+  two[1] = Peer<Small, false>::contender("sdsl wt_int v5" SDSL_SUFFIX);
 }
