@@ -8,16 +8,13 @@ use lib.ListN.{length, drop, length-append}
 use lib.Seq.{sets, sets-eq}
 use Rattle.model.specs.Lists.{overwrite}
 use Rattle.model.specs.Queries.{Pair, flat}
+use Rattle.model.proofs.Pairs.{length-flat}
 use Rattle.model.proofs.Stores.{sets-append}
 use Rattle.answers.specs.Written.{Written}
 
 pub flat-append : (ps qs : List Pair) → flat (ps ++ qs) ≡ flat ps ++ flat qs
 flat-append [] qs = refl
 flat-append (p ∷ ps) qs = ap (λ (l : List ℕ). p .document ∷ p .count ∷ l) (flat-append ps qs)
-
-pub length-flat : (ps : List Pair) → length (flat ps) ≡ 2 * length ps
-length-flat [] = refl
-length-flat (p ∷ ps) = omega (arith, length-flat ps)
 
 -- ---- pairs written from pair number `at` on
 

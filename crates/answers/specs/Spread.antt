@@ -8,10 +8,11 @@ use Rattle.bits.specs.Sequences.{occurrences}
 use Rattle.model.specs.Lists.{Every}
 use Rattle.model.specs.Queries.{Pair, pairsIn, flatPlaced}
 
--- each pair's document has an entry among xs, and its count is how many
+-- each pair's document has an entry among xs
 abbrev pub Occurring : List ℕ → List Pair → Type 0
 Occurring xs = Every (λ p. ltb 0 (occurrences (p .document) xs))
 
+-- and its count is how many
 abbrev pub Counted : List ℕ → List Pair → Type 0
 Counted xs ps = Occurring xs ps × Every (λ p. eqb (p .count) (occurrences (p .document) xs)) ps
 

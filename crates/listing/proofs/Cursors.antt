@@ -2,6 +2,7 @@
 use Prim.Native.Nat.{ℕ, zero, suc, _+_, _-_, _*_, _^_, _≤_, _<_}
 use native.Mathlib.Omega.{arith}
 use native.Mathlib.Nat.{le-of-lt, le-trans}
+use native.Mathlib.Numerals.{add-one}
 use native.Mathlib.Decide.{ℕ-discrete}
 use mathlib.Core.Path.{_≡_, refl, sym, ap, _∙_}
 use mathlib.Core.List.{List}
@@ -10,11 +11,11 @@ use lib.Seq.{getD-set-same, getD-set-other}
 use lib.Dec.{eqb}
 use borrow.Author.Tests.{eq-eqb, ne-eqb}
 use Rattle.bits.specs.Sequences.{bit}
-use Rattle.bits.proofs.Tally.{tally-take-suc}
 use Rattle.model.specs.Lists.{Within}
 use Rattle.model.specs.Rows.{row}
 use Rattle.model.specs.Walk.{pos, key}
 use Rattle.model.proofs.Lists.{within-at}
+use Rattle.model.proofs.Wavelet.Placing as placing
 use Rattle.model.proofs.Wavelet.Rows.{key-lt, row-length, row-bit, row-pos-lt}
 use Rattle.listing.specs.Places.{numberOf, holder, Ready, backTo, Cursors}
 use Rattle.listing.proofs.Numbers.{number-level, number-place, holder-lt, holder-next}
@@ -78,7 +79,7 @@ module _ (h v : ℕ) (b : v < 2 ^ h) (table : List ℕ) where
 
 -- of the first entries, one more
 pub pos-suc : (h : ℕ) (xs : List ℕ) (j q i : ℕ) → i < length xs → pos h xs j q (suc i) ≡ pos h xs j q i + bit (eqb (key h j (getD xs i 0)) q)
-pos-suc h xs j q i l = omega (arith, tally-take-suc (λ v. eqb (key h j v) q) xs i 0 l)
+pos-suc h xs j q i l = rw (add-one i) at (placing.pos-suc h j xs q i l)
 
 module _ (h : ℕ) (xs : List ℕ) (w : Within (2 ^ h) xs) (i : ℕ) (l : i < length xs) where
   abbrev x : ℕ

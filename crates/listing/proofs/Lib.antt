@@ -6,4 +6,4 @@ pub mod FirstPlaces
 pub mod Noted
 pub mod Ways
 pub mod Placed
-pub mod Tables
+pub mod Placing

@@ -5,8 +5,9 @@ use mathlib.Core.List.{List}
 use mathlib.Core.Bool.{cond}
 use lib.ListN.{getD, set}
 use lib.Dec.{eqb}
-use Rattle.bits.specs.Sequences.{occurrences, select}
+use Rattle.bits.specs.Sequences.{occurrences}
 use Rattle.model.specs.Lists.{part}
+use Rattle.model.specs.Queries.{firstPlace}
 use Rattle.model.specs.Walk.{pos, key}
 use Rattle.wavelet.specs.declared.Levels.{Levels}
 use Rattle.wavelet.specs.declared.Span.{Span}
@@ -51,6 +52,6 @@ abbrev pub Cursors : ℕ → List ℕ → ℕ → ℕ → ℕ → List ℕ → T
 Cursors h xs a b i table =
     (e j : ℕ) → a ≤ e → e < b → j < h → getD table (holder h j (getD xs e 0)) 0 ≡ pos h xs j (key h j (getD xs e 0)) i
 
--- each document of the range a to b has the place of its first entry there, counted from entry 0
+-- each document of the range a to b has its first place there
 abbrev pub FirstPlaces : List ℕ → ℕ → ℕ → List ℕ → Type 0
-FirstPlaces xs a b first = (d : ℕ) → 0 < occurrences d (part a b xs) → getD first d 0 ≡ a + select d (part a b xs) 1
+FirstPlaces xs a b first = (d : ℕ) → 0 < occurrences d (part a b xs) → getD first d 0 ≡ firstPlace a (part a b xs) d

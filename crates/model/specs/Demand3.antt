@@ -56,7 +56,7 @@ pub record Demand3 (N k allowance from : ℕ) (xs out : List ℕ) (greedy : Sear
       ≡ tally (λ n. ltb (last p ps .count) (countIn xs n) || eqb (countIn xs n) (last p ps .count) && leb (start n) (last p ps .document)) (innerNodes (height N))
   -- "an empty list needs none"
   pub needs-none : needOf [] ≡ 0
-  -- "The shortlist answers 'done' with the full list and its need .., each document with its first place (M-108)
+  -- each document is written with its count and its first place (document 02, M-108): "The shortlist answers 'done' with the full list and its need ..
   pub done : needOf full ≤ allowance
       → (greedy .outcome ≡ answered (doneWith (length full) (needOf full))) × (greedy .answers ≡ overwrite (withPlaces from xs full) out)
   -- .. exactly when the allowance covers that need"

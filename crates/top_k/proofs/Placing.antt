@@ -30,7 +30,7 @@ use Rattle.top_k.proofs.Demand3.FullList.{of-the-range, exact-count, lo
 answered-is : {A : Type 0} {m n : A} → answered m ≡ answered n → m ≡ n
 answered-is e = cc
 
-module _ (h N k : ℕ) (xs : List ℕ) where
+module _ (N k : ℕ) (xs : List ℕ) where
   full-counted : Counted xs (fullList N k xs)
   full-counted = (of-the-range N k xs, exact-count N k xs)
 
@@ -41,8 +41,8 @@ module _ (h N k : ℕ) (xs : List ℕ) where
     every-take (λ p. eqb (p .count) (occurrences (p .document) xs)) m (fullList N k xs) (exact-count N k xs),
   )
 
-  pub greedy-counted : (allowance : ℕ) → Counted xs (pairsOf (topK h N xs k allowance))
-  greedy-counted allowance = go (leb (need h xs (fullList N k xs)) allowance)
+  greedy-counted : (h allowance : ℕ) → Counted xs (pairsOf (topK h N xs k allowance))
+  greedy-counted h allowance = go (leb (need h xs (fullList N k xs)) allowance)
     where
       go : (b : Bool)
           → Counted xs (pairsOf (cond b (done (fullList N k xs) (need h xs (fullList N k xs))) (spent (covered h xs allowance (fullList N k xs) (length (fullList N k xs))) allowance)))
@@ -98,7 +98,7 @@ module _ (bytes : List ℕ) (s : Search) (ok : Searchable bytes s) (k : ℕ) (ou
     listed-is = many ∙ ap listedBy ended ∙ listed-length answer
 
     pub greedy-ready : (3 * n ≤ length after) × (n ≤ 4096) × Counted xs (pairsIn after n)
-    greedy-ready = ready (pairsOf answer) after left n listed-is (length-topK (height N) N xs k allowance) (greedy-counted (height N) N k xs allowance)
+    greedy-ready = ready (pairsOf answer) after left n listed-is (length-topK (height N) N xs k allowance) (greedy-counted N k xs (height N) allowance)
 
     pub greedy-placed : (final : List ℕ) → final ≡ overwrite (withPlaces (s .a) xs (pairsIn after n)) after
         → (t : TopK) → topKOf t ≡ answered (endedIs r) → topKIs t final working ≡ foundInto out work (answered (greedyOf k allowance (entriesOf bytes s)))
@@ -125,7 +125,7 @@ module _ (bytes : List ℕ) (s : Search) (ok : Searchable bytes s) (k : ℕ) (ou
     probing-few = omega (arith, full-listed, full-short, ok .few)
 
     pub probing-ready : (3 * n ≤ length after) × (n ≤ 4096) × Counted xs (pairsIn after n)
-    probing-ready = ready full after full-left n full-listed full-short (full-counted (height N) N k xs)
+    probing-ready = ready full after full-left n full-listed full-short (full-counted N k xs)
 
     pub probing-placed : (final : List ℕ) → final ≡ overwrite (withPlaces (s .a) xs (pairsIn after n)) after
         → probedIs (probed.Listed n) final working ≡ foundInto out work (answered (probingOf k (entriesOf bytes s)))

@@ -13,7 +13,7 @@ use Rattle.archive.proofs.Opened.{limits, stored, entries-are, entries-within, 
 use Rattle.answers.specs.Written.{ListsPlaced}
 use Rattle.listing.proofs.Listed.{listing-within, listing-le}
 use Rattle.listing.proofs.Numbers.{leaves-few}
-use Rattle.listing.proofs.Tables.{listing-ready, listing-placed}
+use Rattle.listing.proofs.Placing.{listing-ready, listing-placed}
 use Rattle.listing.proofs.lists.list_in.Statement.{statement}
 use Rattle.listing.proofs.lists.list_in.Tie as tie
 

@@ -10,7 +10,7 @@ use Rattle.model.specs.Queries.{pairsIn}
 use Rattle.wavelet.specs.Levels.{entriesIn}
 use Rattle.wavelet.proofs.Stored.{within-entriesIn}
 use Rattle.listing.proofs.Numbers.{leaves-few}
-use Rattle.listing.proofs.Tables.{noted-inside, noted-first}
+use Rattle.listing.proofs.Placing.{noted-inside, noted-first}
 use Rattle.listing.proofs.places.put_by_pass.Statement.{statement}
 use Rattle.listing.proofs.places.put_by_pass.Tie as tie
 
