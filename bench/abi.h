@@ -1,6 +1,5 @@
 // The operations on an archive as C sees them: a slice is its first element and its length, and the levels of an opened archive are numbers.
-// ours.cpp, and peer.cpp with dated.cpp, weighted.cpp, boolean.cpp, rank_set.cpp and rarest_first.cpp, have them under a prefix for each way that they
-// are compiled.
+// ours.cpp, and peer.cpp with weighted.cpp, boolean.cpp, rank_set.cpp and rarest_first.cpp, have them under a prefix for each way that they are compiled.
 #pragma once
 #include <stddef.h>
 #include <stdint.h>
@@ -21,18 +20,14 @@ typedef size_t rank_set_fn(LEVELS, const uint32_t *set, size_t size, size_t plac
 typedef size_t select_fn(LEVELS, size_t d, size_t i);
 // The document.
 typedef size_t quantile_fn(LEVELS, size_t a, size_t b, size_t r);
-// The following answer how many documents they wrote. The listing, greedy, dated and probing write three numbers for each: document, count, and the place
-// of its first entry in the range, counted from entry 0; the conjunction and weighted write pairs of document and count or score.
+// The following answer how many documents they wrote. The listing, greedy and probing write three numbers for each: document, count, and the place of
+// its first entry in the range, counted from entry 0; the conjunction and weighted write pairs of document and count or score.
 typedef size_t list_fn(LEVELS, size_t documents, size_t a, size_t b, uint32_t *answers, size_t answers_len);
 // Of eight chosen numbers the first `size` are the terms; a repeated one counts once.
 typedef size_t conjunction_fn(LEVELS, size_t documents, size_t terms, const uint32_t *chosen, uint32_t size, uint32_t *answers, size_t answers_len);
 // The documents in the low 32 bits, the openings from bit 32 on, and in bit 63 whether the allowance was spent.
 typedef uint64_t greedy_fn(LEVELS, size_t documents, size_t a, size_t b, uint32_t k, uint32_t allowance, uint32_t *answers, size_t answers_len, uint32_t *work, size_t work_len);
 typedef size_t probing_fn(LEVELS, size_t documents, size_t a, size_t b, uint32_t k, uint32_t *answers, size_t answers_len, uint32_t *work, size_t work_len);
-// As greedy, of the documents that are in force on a day by a list of days, a first and a last one for each; or REFUSED, and nothing is written, where
-// the days do not hold.
-const uint64_t REFUSED = ~(uint64_t)0;
-typedef uint64_t dated_fn(LEVELS, size_t documents, size_t a, size_t b, uint32_t k, uint32_t allowance, const uint32_t *days, size_t days_len, uint32_t day, uint32_t *answers, size_t answers_len, uint32_t *work, size_t work_len);
 // The terms are as those of the conjunction; the answer is as that of greedy.
 typedef uint64_t weighted_fn(LEVELS, size_t documents, size_t terms, const uint32_t *chosen, uint32_t size, uint32_t k, uint32_t allowance, uint32_t *answers, size_t answers_len, uint32_t *work, size_t work_len);
 // A question with and, or, not of so many numbers, which has a reading; how many documents were written.
@@ -44,7 +39,7 @@ typedef size_t rarest_first_fn(LEVELS, size_t terms, const uint32_t *chosen, uin
 // All of them, under the prefix that F puts before a name.
 #define JOIN_(p, f) p##_##f
 #define JOIN(p, f) JOIN_(p, f)
-#define DECLARE_OPERATIONS open_fn F(open); write_fn F(write); read_fn F(read); access_fn F(access); rank_fn F(rank); rank_set_fn F(rank_set); select_fn F(select); quantile_fn F(quantile); list_fn F(list); conjunction_fn F(conjunction); greedy_fn F(greedy); probing_fn F(probing); weighted_fn F(weighted); boolean_fn F(boolean); rarest_first_fn F(rarest_first); dated_fn F(dated);
+#define DECLARE_OPERATIONS open_fn F(open); write_fn F(write); read_fn F(read); access_fn F(access); rank_fn F(rank); rank_set_fn F(rank_set); select_fn F(select); quantile_fn F(quantile); list_fn F(list); conjunction_fn F(conjunction); greedy_fn F(greedy); probing_fn F(probing); weighted_fn F(weighted); boolean_fn F(boolean); rarest_first_fn F(rarest_first);
 
 struct Operations {
   open_fn *open;
@@ -62,5 +57,4 @@ struct Operations {
   weighted_fn *weighted;
   boolean_fn *boolean;
   rarest_first_fn *rarest_first;
-  dated_fn *dated;
 };

@@ -14,19 +14,17 @@ struct Library {
 // Each operation takes its own of these.
 struct Query {
   size_t a, b, x;        // a range or a place, and a document or a rank
-  uint32_t k, allowance; // top-k, weighted and dated too
+  uint32_t k, allowance; // top-k, weighted too
   uint32_t chosen[8];    // conjunction, weighted, rarest first: the first `size` are the terms
   uint32_t size;
   const uint16_t *question; // boolean: so many numbers as `size` says
   const uint32_t *set;      // rank set, rank each: so many documents, ascending, before the place a
-  const uint32_t *days;     // dated: so many days, two for each document
-  uint32_t day;             // and the asked one
 };
 
-enum Op { OPEN, WRITE, READ, ACCESS, RANK, RANK_SET, RANKS, SELECT, QUANTILE, LIST, CONJUNCTION, GREEDY, PROBING, WEIGHTED, BOOLEAN, RAREST_FIRST, DATED, OPS };
+enum Op { OPEN, WRITE, READ, ACCESS, RANK, RANK_SET, RANKS, SELECT, QUANTILE, LIST, CONJUNCTION, GREEDY, PROBING, WEIGHTED, BOOLEAN, RAREST_FIRST, OPS };
 
 // The low 32 bits of a result are compared: a number, or how many documents or terms (rarest first) were written. With a document stand its count and first
-// place (list, greedy, probing, dated), its count (conjunction) or its score (weighted).
+// place (list, greedy, probing), its count (conjunction) or its score (weighted).
 typedef uint64_t op_fn(void *index, const Query &q, uint32_t *answers);
 
 struct Contender {

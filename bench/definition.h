@@ -1,4 +1,4 @@
-// What select, the count of a set, the listing, the conjunction, the searches, also the dated one, questions with and, or, not and the order of terms answer by the definitions in docs/FORMAT.md: from the list alone, sharing nothing with a contender.
+// What select, the count of a set, the listing, the conjunction, the searches, questions with and, or, not and the order of terms answer by the definitions in docs/FORMAT.md: from the list alone, sharing nothing with a contender.
 #pragma once
 #include <algorithm>
 #include <iterator>
@@ -6,7 +6,6 @@
 #include <set>
 #include <stddef.h>
 #include <stdint.h>
-#include <time.h>
 #include <utility>
 #include <vector>
 
@@ -38,31 +37,6 @@ inline uint32_t count_of_set(const Numbers &list, const Documents &set, size_t p
   for (size_t i = 0; i < place; i++) count += (uint32_t)set.count(list[i]);
   return count;
 }
-
-// Each day from 1 January 2000 to 31 December 2199, ascending, as a decimal number of year, month and day: by the C library's calendar.
-inline const Numbers &all_days() {
-  static const Numbers days = [] {
-    Numbers all;
-    for (time_t t = 946684800; t < 7258118400; t += 86400) {
-      tm parts;
-      gmtime_r(&t, &parts);
-      all.push_back((uint32_t)((parts.tm_year + 1900) * 10000 + (parts.tm_mon + 1) * 100 + parts.tm_mday));
-    }
-    return all;
-  }();
-  return days;
-}
-
-inline bool is_day(uint32_t x) { return std::binary_search(all_days().begin(), all_days().end(), x); }
-
-// Whether a list has just two days for each document, these and the asked one are days, and no first one is after its last.
-inline bool days_hold(const Numbers &days, uint32_t day, uint32_t documents) {
-  bool hold = is_day(day) && days.size() == 2 * (size_t)documents && std::all_of(days.begin(), days.end(), is_day);
-  for (size_t i = 0; hold && i < days.size(); i += 2) hold = days[i] <= days[i + 1];
-  return hold;
-}
-
-inline bool in_force(const uint32_t *days, uint32_t day, uint32_t d) { return days[2 * d] <= day && day <= days[2 * d + 1]; }
 
 // What the terms of a question come to: a repeated term counts once.
 inline std::set<uint32_t> different(const uint32_t *given, size_t size) { return std::set<uint32_t>(given, given + size); }
@@ -152,11 +126,11 @@ struct Sums {
     return pairs;
   }
 
-  // The full list: the first k of the documents with an entry that are shown, by larger score and then lower number.
-  template <class Shown> Numbers list(uint32_t k, Shown shown) const {
+  // The full list: the first k of the documents with an entry, by larger score and then lower number.
+  Numbers list(uint32_t k) const {
     std::vector<std::pair<uint32_t, uint32_t>> ranking; // the score reversed, and the document
     for (uint32_t d = 0; d < documents; d++)
-      if (entries[d] && shown(d)) ranking.push_back({~scores[d], d});
+      if (entries[d]) ranking.push_back({~scores[d], d});
     std::sort(ranking.begin(), ranking.end());
     if (ranking.size() > k) ranking.resize(k);
     Numbers pairs;
@@ -192,14 +166,4 @@ inline uint64_t bounded_answer(const std::vector<Inner> &nodes, uint32_t allowan
     uint64_t need = m ? need_of(nodes, full[width * (m - 1)], full[width * (m - 1) + 1]) : 0;
     if (need <= allowance) return m == size ? need << 32 | m : (uint64_t)1 << 63 | (uint64_t)allowance << 32 | m;
   }
-}
-
-// The same of a dated search, from the full list of those in force. Where these are fewer than k all nodes are needed; 'spent' comes with each document
-// whose own need is covered, and needs do not fall along the list.
-inline uint64_t dated_answer(const std::vector<Inner> &nodes, uint32_t allowance, uint32_t k, const uint32_t *full, size_t width, size_t size) {
-  auto need = [&](size_t i) { return need_of(nodes, full[width * i], full[width * i + 1]); };
-  uint64_t whole = size < k ? nodes.size() : k ? need(k - 1) : 0, covered = 0;
-  if (whole <= allowance) return whole << 32 | size;
-  for (size_t i = 0; i < size; i++) covered += need(i) <= allowance;
-  return (uint64_t)1 << 63 | (uint64_t)allowance << 32 | covered;
 }

@@ -13,7 +13,7 @@
 #define F(f) JOIN(OURS, f)
 typedef uint32_t u32;
 
-// The harness asks nothing that is refused, but for days.
+// The harness asks nothing that is refused.
 static inline void answered(u32 refusal) {
   if (refusal != MASUVELIOR_OK) abort();
 }
@@ -107,13 +107,5 @@ size_t F(rarest_first)(LEVELS_UNUSED, size_t, const u32 *chosen, u32 size, u32 *
   u32 different = 0;
   answered(ASK(rarest_first)(bytes, len, chosen, size, order, &different));
   return different;
-}
-
-uint64_t F(dated)(LEVELS_UNUSED, size_t, size_t a, size_t b, u32 k, u32 allowance, const u32 *days, size_t days_len, u32 day, u32 *answers, size_t answers_len, u32 *work, size_t work_len) {
-  u32 listed = 0, spent = 0, number = 0;
-  u32 refusal = ASK(dated_entries)(bytes, len, (u32)a, (u32)b, k, allowance, days, days_len, day, answers, answers_len, work, work_len, &listed, &spent, &number);
-  if (refusal == MASUVELIOR_REFUSED_DAYS) return REFUSED;
-  answered(refusal);
-  return (uint64_t)spent << 63 | (uint64_t)number << 32 | listed;
 }
 }

@@ -19,8 +19,8 @@
 Contender scan_contender();
 extern "C" void sdsl_plain(Contender *), sdsl_popcnt(Contender *);
 
-#define PEER(p) extern "C" { open_fn p##_open; write_fn p##_write; read_fn p##_read; access_fn p##_access; rank_fn p##_rank; rank_set_fn p##_rank_set; select_fn p##_select; quantile_fn p##_quantile; list_fn p##_list; conjunction_fn p##_conjunction; greedy_fn p##_greedy; probing_fn p##_probing; weighted_fn p##_weighted; boolean_fn p##_boolean; rarest_first_fn p##_rarest_first; dated_fn p##_dated; } \
-  constexpr Operations p = {p##_open, p##_write, p##_read, p##_access, p##_rank, p##_rank_set, p##_select, p##_quantile, p##_list, p##_conjunction, p##_greedy, p##_probing, p##_weighted, p##_boolean, p##_rarest_first, p##_dated};
+#define PEER(p) extern "C" { open_fn p##_open; write_fn p##_write; read_fn p##_read; access_fn p##_access; rank_fn p##_rank; rank_set_fn p##_rank_set; select_fn p##_select; quantile_fn p##_quantile; list_fn p##_list; conjunction_fn p##_conjunction; greedy_fn p##_greedy; probing_fn p##_probing; weighted_fn p##_weighted; boolean_fn p##_boolean; rarest_first_fn p##_rarest_first; } \
+  constexpr Operations p = {p##_open, p##_write, p##_read, p##_access, p##_rank, p##_rank_set, p##_select, p##_quantile, p##_list, p##_conjunction, p##_greedy, p##_probing, p##_weighted, p##_boolean, p##_rarest_first};
 
 PEER(tight_nopop)
 PEER(plain_nopop)
@@ -126,12 +126,8 @@ template <const Operations &F> struct Tree {
     return F.boolean(AT(x), x.documents, x.terms, q.question, q.size, answers, x.documents);
   }
   static uint64_t rarest_first(void *p, const Query &q, uint32_t *order) { Archive &x = *(Archive *)p; return F.rarest_first(AT(x), x.terms, q.chosen, q.size, order); }
-  static uint64_t dated(void *p, const Query &q, uint32_t *answers) {
-    Archive &x = *(Archive *)p;
-    return F.dated(AT(x), x.documents, q.a, q.b, q.k, q.allowance, q.days, q.size, q.day, answers, 3 * x.documents, x.work.data(), x.work.size());
-  }
   static Contender contender(const char *name) {
-    return {name, build, drop, bytes, {open, write, read, access, rank, rank_set, ranks, select, quantile, list, conjunction, greedy, probing, weighted, boolean, rarest_first, dated}};
+    return {name, build, drop, bytes, {open, write, read, access, rank, rank_set, ranks, select, quantile, list, conjunction, greedy, probing, weighted, boolean, rarest_first}};
   }
 };
 
@@ -256,7 +252,7 @@ struct Data {
 
 // ---- verification
 
-const char *NAMES[OPS] = {"open", "write", "read", "access", "rank", "rank set", "rank each", "select", "quantile", "list", "conjunction", "greedy", "probing", "weighted", "boolean", "rarest first", "dated"};
+const char *NAMES[OPS] = {"open", "write", "read", "access", "rank", "rank set", "rank each", "select", "quantile", "list", "conjunction", "greedy", "probing", "weighted", "boolean", "rarest first"};
 size_t comparisons = 0;
 
 void expect(bool right, const Contender &c, const char *what) {
@@ -264,7 +260,7 @@ void expect(bool right, const Contender &c, const char *what) {
   if (!right) fail("%s: wrong %s", c.name, what);
 }
 
-bool adds_range(Op op) { return op == LIST || op == GREEDY || op == PROBING || op == DATED; }
+bool adds_range(Op op) { return op == LIST || op == GREEDY || op == PROBING; }
 bool adds_terms(Op op) { return op == CONJUNCTION || op == WEIGHTED; }
 bool takes_terms(Op op) { return adds_terms(op) || op == RAREST_FIRST; }
 bool takes_set(Op op) { return op == RANK_SET || op == RANKS; }
@@ -281,8 +277,7 @@ Sums sums_of(const Data &data, Op op, const Query &q) {
 // All that is written where there is no bound: of a range with first places.
 Numbers full_answer(const Data &data, Op op, const Query &q) {
   Sums sums = sums_of(data, op, q);
-  auto shown = [&](uint32_t d) { return op != DATED || in_force(q.days, q.day, d); };
-  Numbers pairs = op == LIST || op == CONJUNCTION ? sums.common() : sums.list(q.k, shown);
+  Numbers pairs = op == LIST || op == CONJUNCTION ? sums.common() : sums.list(q.k);
   return adds_range(op) ? with_first_places(pairs, data.entries, q.a, q.b) : pairs;
 }
 
@@ -353,20 +348,6 @@ Documents absent(const Data &data, const Documents &set) {
   return none;
 }
 
-// A list of days by which just these documents are in force on a day: each other one has both of its days before it, or both after.
-Numbers days_of(uint32_t documents, const Documents &shown, uint32_t day) {
-  const Numbers &all = all_days();
-  size_t at = (size_t)(std::lower_bound(all.begin(), all.end(), day) - all.begin()), after = all.size() - at - 1;
-  Numbers days;
-  for (uint32_t d = 0; d < documents; d++) {
-    bool early = below(at + after) < at;
-    size_t from = early ? 0 : at + 1, size = early ? at : after, first = from + below(size), last = from + below(size);
-    if (shown.count(d)) days.insert(days.end(), {all[below(at + 1)], all[at + below(after + 1)]});
-    else days.insert(days.end(), {all[std::min(first, last)], all[std::max(first, last)]});
-  }
-  return days;
-}
-
 // Any term, or that of a random entry.
 uint32_t random_term(const Data &data, size_t turn) {
   if (turn % 3 == 0) return below(data.lengths.size());
@@ -419,8 +400,7 @@ Query random_query(const Data &data, Op op, size_t turn) {
     for (size_t i = 0; i < 8; i++) q.chosen[i] = i >= q.size ? NO_BOUND : i && below(6) == 0 ? q.chosen[below(i)] : random_term(data, turn);
     if (op == WEIGHTED && turn % 7 == 3) q.k = NO_BOUND;
   }
-  if (op == DATED && turn % 7 == 3) q.k = NO_BOUND;
-  if (op == QUANTILE || adds_range(op)) {
+  if (op == QUANTILE || op == LIST || op == GREEDY || op == PROBING) {
     q.a = turn % 4 ? below(n) : 0;
     q.b = turn % 4 == 0 ? n : turn % 4 == 1 ? std::min<size_t>(n, q.a + 1 + below(20)) : q.a + 1 + below(n - q.a);
     if (op != QUANTILE && turn % 16 == 7) q.b = q.a;
@@ -440,20 +420,13 @@ Query again(Query q, Again way) {
   return q;
 }
 
-// What a search answers under its allowance by the definition, from the full list.
-uint64_t answer_of(Op op, const Query &q, const std::vector<Inner> &nodes, const Numbers &full, size_t size) {
-  if (op == DATED) return dated_answer(nodes, q.allowance, q.k, full.data(), width(op), size);
-  return bounded_answer(nodes, q.allowance, full.data(), width(op), size);
-}
-
 // Under an allowance a search answers what the definition says, whatever the lent slices held; it writes its documents and 4 * N times 0, and no more.
 void verify_bounded(const std::vector<Contender> &all, const Data &data, Op op, Query q, const Numbers &right, size_t size) {
   std::vector<Inner> nodes = sums_of(data, op, q).inner_nodes();
-  q.allowance = NO_BOUND;
-  uint32_t need = (uint32_t)(answer_of(op, q, nodes, right, size) >> 32);
+  uint32_t need = (uint32_t)(bounded_answer(nodes, NO_BOUND, right.data(), width(op), size) >> 32);
   for (uint32_t allowance : {NO_BOUND, below(60), 0u, need, need - (need != 0)}) {
     q.allowance = allowance;
-    uint64_t answer = answer_of(op, q, nodes, right, size);
+    uint64_t answer = bounded_answer(nodes, allowance, right.data(), width(op), size);
     Numbers cleared(4 * data.documents + 4, LENT);
     std::fill(cleared.begin(), cleared.begin() + 4 * data.documents, 0);
     for (size_t c = 1; c < all.size(); c++) {
@@ -492,7 +465,7 @@ void verify_query(const std::vector<Contender> &all, const Data &data, Op op, co
     Numbers full = full_answer(data, op, q);
     expect(expected == full.size() / width(op) && std::equal(full.begin(), full.end(), right.begin()), all[SCAN], NAMES[op]);
   }
-  if ((op == GREEDY || op == WEIGHTED || op == DATED) && turn % 2 == 0) verify_bounded(all, data, op, q, right, (size_t)expected);
+  if ((op == GREEDY || op == WEIGHTED) && turn % 2 == 0) verify_bounded(all, data, op, q, right, (size_t)expected);
 }
 
 // How a walk over the places of a document begins and ends: its first entry, its last, the one behind that, which is missing, and one far behind.
@@ -514,70 +487,9 @@ void verify_sets(const std::vector<Contender> &all, const Data &data, Op op, siz
     verify_query(all, data, op, ask_set(set, places[i++ % 3]), turn);
 }
 
-// A list of days, and the asked one.
-struct Dates { Numbers days; uint32_t day; };
-
-Query on_day(Query q, const Dates &dates) {
-  q.days = dates.days.data();
-  q.size = (uint32_t)dates.days.size();
-  q.day = dates.day;
-  return q;
-}
-
-// On any day, or on one at the calendar's ends and around a 29 February that is there or is not: all documents in force, some, few, or none; or each of
-// them from the day before, the day itself or the day after to another of these.
-Dates random_dates(const Data &data, size_t turn) {
-  const Numbers &all = all_days(), special = {20000101, 20000229, 20960301, 21000228, 21000301, 21040229, 21991231};
-  uint32_t day = turn % 3 ? all[below(all.size())] : special[below(special.size())], N = data.documents, kind = below(5);
-  if (kind == 0) return {days_of(N, neighbours(data, N), day), day};
-  if (kind < 4) return {days_of(N, any_documents(data, kind == 1 ? below(N + 1) : kind == 2 ? (N + 99) / 100 : 0), day), day};
-  size_t at = (size_t)(std::lower_bound(all.begin(), all.end(), day) - all.begin());
-  Numbers days;
-  for (uint32_t d = 0; d < N; d++) {
-    size_t x = at + below(3), y = at + below(3);
-    for (size_t i : {std::min(x, y), std::max(x, y)}) days.push_back(all[std::min(i ? i - 1 : 0, all.size() - 1)]);
-  }
-  return {days, day};
-}
-
-// Four digits of a year, two of a month and two of a day, of which one or more may be past its ends.
-uint32_t nearly_a_day() { return (1999 + below(202)) * 10000 + below(14) * 100 + below(33); }
-
-// Where days do not hold, all refuse the question and write nothing.
-void verify_refused(const std::vector<Contender> &all, const Data &data, const Query &q) {
-  const Numbers lent(3 * data.documents, LENT), room(4 * data.documents + 4, LENT);
-  for (size_t c = 0; c < all.size(); c++) {
-    if (!all[c].ops[DATED]) continue;
-    Numbers got = lent;
-    if (is_tree(all[c])) ((Archive *)data.indexes[c])->work = room;
-    expect(all[c].ops[DATED](data.indexes[c], q, got.data()) == REFUSED, all[c], "refusal of days");
-    expect(got == lent && (!is_tree(all[c]) || ((Archive *)data.indexes[c])->work == room), all[c], "slices after a refusal");
-  }
-}
-
-// A dated question with lists of many kinds; then with some in which a day, the order of two or the length is changed, which may hold or not.
-void verify_dated(const std::vector<Contender> &all, const Data &data, size_t turn) {
-  Query q = random_query(data, DATED, turn);
-  const Dates dates = random_dates(data, turn);
-  size_t size = dates.days.size();
-  verify_query(all, data, DATED, on_day(q, dates), turn);
-  for (size_t way = 0; way < 9; way++) {
-    Dates changed = dates;
-    size_t at = way == 0 ? 0 : way == 1 ? size - 1 : below(size);
-    if (way < 4) changed.days[at] = nearly_a_day();
-    else if (way == 4) changed.day = nearly_a_day();
-    else if (way == 5) std::swap(changed.days[at / 2 * 2], changed.days[at / 2 * 2 + 1]);
-    else changed.days.resize(way == 6 ? size - 1 : way == 7 ? size + 1 : size + 2, changed.day);
-    if (days_hold(changed.days, changed.day, data.documents)) verify_query(all, data, DATED, on_day(q, changed), 1);
-    else verify_refused(all, data, on_day(q, changed));
-  }
-}
-
-// A question of terms is asked with its terms given again, too; one for a place also where the document's places end; one of a set with sets of many
-// kinds, and a dated one with lists.
+// A question of terms is asked with its terms given again, too; one for a place also where the document's places end; one of a set with sets of many kinds.
 void verify_op(const std::vector<Contender> &all, const Data &data, Op op, size_t turn) {
   if (takes_set(op)) return verify_sets(all, data, op, turn);
-  if (op == DATED) return verify_dated(all, data, turn);
   Query q = random_query(data, op, turn);
   verify_query(all, data, op, q, turn);
   if (op == SELECT) verify_places(all, data, q);
@@ -656,58 +568,6 @@ void verify_first_places(const std::vector<Contender> &all, const Data &data) {
   }
 }
 
-// Days of the small library. The entries 1 to 4 are 1 0 3, so that 0 and 1 need two openings and 3 needs all three.
-void verify_days(const std::vector<Contender> &all, const Data &data) {
-  Dates dates = {{20000101, 20000229, 20000229, 21000228, 20000229, 20000229, 21000301, 21991231}, 0};
-  const uint64_t spent = (uint64_t)1 << 31;
-  const struct { uint32_t day, k, allowance; Numbers answers; uint64_t openings; } cases[] = {
-    {20000229, 1, 2, {0, 1, 2}, 2}, {20000229, 2, 2, {0, 1, 2, 1, 1, 1}, 2}, {20000229, 3, 3, {0, 1, 2, 1, 1, 1}, 3}, {20000229, 3, 2, {0, 1, 2, 1, 1, 1}, spent | 2},
-    {20000229, 3, 1, {}, spent | 1}, {20000228, 1, 9, {0, 1, 2}, 2}, {20000301, 1, 9, {1, 1, 1}, 2}, {21000228, 1, 9, {1, 1, 1}, 2}, {21000301, 1, 3, {3, 1, 3}, 3},
-    {21000301, 1, 2, {}, spent | 2}, {21000301, 0, 0, {}, 0}, {21991231, 4, 4, {3, 1, 3}, 3},
-  };
-  for (auto &one : cases) {
-    dates.day = one.day;
-    Query q = on_day(Query(), dates);
-    q.a = 1;
-    q.b = 4;
-    q.k = one.k;
-    q.allowance = NO_BOUND;
-    verify_query(all, data, DATED, q, 0);
-    q.allowance = one.allowance;
-    Numbers full = full_answer(data, DATED, q);
-    uint64_t answer = answer_of(DATED, q, sums_of(data, DATED, q).inner_nodes(), full, full.size() / 3);
-    full.resize(3 * (uint32_t)answer);
-    expect(answer >> 32 == one.openings && full == one.answers, all[SCAN], "days");
-  }
-}
-
-// Of all numbers from 19990000 to 22009999 and of some from anywhere each contender takes those of the calendar for days: asked, as a first day and as a
-// last one, of one document.
-void verify_calendar(const std::vector<Contender> &all) {
-  const Numbers &days = all_days(), told = {20000101, 20000229, 21000228, 21000301, 21991231};
-  expect(days.size() == 73049 && std::includes(days.begin(), days.end(), told.begin(), told.end()) && !is_day(21000229), all[SCAN], "calendar");
-  Numbers numbers(2020000), right;
-  std::iota(numbers.begin(), numbers.end(), 19990000);
-  for (size_t i = 0; i < 10000; i++) numbers.push_back((uint32_t)(next() >> 32));
-  std::copy_if(numbers.begin(), numbers.end(), std::back_inserter(right), is_day);
-  Data data(all, {0}, {1}, 1);
-  for (size_t c = 0; c < all.size(); c++)
-    for (int as = 0; as < 3 && all[c].ops[DATED]; as++) {
-      Numbers taken;
-      uint32_t three[3] = {days.front(), days.front(), days.back()}, none[3]; // asked, first, last; nothing is listed
-      Query q = Query();
-      q.days = three + 1;
-      q.size = 2;
-      for (uint32_t x : numbers) {
-        three[as] = x;
-        q.day = three[0];
-        if (all[c].ops[DATED](data.indexes[c], q, none) != REFUSED) taken.push_back(x);
-      }
-      expect(taken == right, all[c], "calendar");
-    }
-  data.drop(all);
-}
-
 // Terms of the small library, which have 3, 0 and 5 entries.
 void verify_orders(const std::vector<Contender> &all, const Data &data) {
   const struct { Numbers terms, order; } cases[] = {
@@ -732,7 +592,6 @@ void verify_small(const std::vector<Contender> &all) {
   verify_readings(all, data);
   verify_counts(all, data);
   verify_first_places(all, data);
-  verify_days(all, data);
   verify_orders(all, data);
   for (size_t turn = 0; turn < 200; turn++)
     for (int op = ACCESS; op < OPS; op++) verify_op(all, data, (Op)op, turn);
@@ -742,7 +601,6 @@ void verify_small(const std::vector<Contender> &all) {
 void verify(const std::vector<Contender> &all) {
   auto lengths = [](size_t n, size_t terms) { return below(2) ? even_lengths(n, terms) : mixed_lengths(n, terms); };
   verify_small(all);
-  verify_calendar(all);
   for (size_t n : {1, 2, 63, 64, 65, 511, 512, 513, 1000, 1024, 1025, 4096, 5000})
     for (uint32_t documents : {1, 2, 3, 7, 64, 100, 1000, 4096})
       for (Kind kind : {UNIFORM, SKEWED, EQUAL}) verify_one(all, n, documents, lengths(n, 1 + below(40)), kind, 12);
@@ -772,8 +630,6 @@ uint64_t __attribute__((noinline)) batch(op_fn *f, void *index, const Query *q, 
 }
 
 const size_t QUERIES = 2048, PASSES = 3;
-// Questions of mixed terms differ much in cost, and so do those of repeated terms, of sets and of days: a batch has several.
-const size_t SEVERAL = 16;
 
 // One operation on one set of queries, for every contender that has it. The rounds of a cell are spread over the passes of the whole run.
 struct Cell {
@@ -919,21 +775,13 @@ Query boolean_query(const Data &data, size_t size, bool with_not) {
   return ask(numbers);
 }
 
-// Whether a name has a part of the filter in it. Between two parts stands |.
-bool passes(const std::string &name, const char *filter) {
-  std::string parts = std::string(filter ? filter : "") + "|";
-  for (size_t from = 0, to; (to = parts.find('|', from)) != std::string::npos; from = to + 1)
-    if (name.find(parts.substr(from, to - from)) != std::string::npos) return true;
-  return false;
-}
-
 // `of`: how many terms, or what else the name has. A batch has no fewer questions than `least`.
 template <class Make> void add(Set &set, const std::vector<Contender> &all, const char *filter, double seconds, Op op, int range, uint32_t k, const std::string &of, size_t least, Make make) {
   const Data &data = range == MIXED ? *set.mixed : (op == CONJUNCTION || op == BOOLEAN) && range == 1 ? *set.volumes : *set.terms;
   std::string name = NAMES[op] + of;
   if (range >= 0) name += std::string(" ") + RANGES[range];
   if (k) name += " k=" + std::to_string(k);
-  if (!passes(set.name + " " + name, filter)) return;
+  if (filter && (set.name + " " + name).find(filter) == std::string::npos) return;
   Cell c;
   c.data = set.name;
   c.name = name;
@@ -967,47 +815,16 @@ void add_orders(Set &set, const std::vector<Contender> &all, const char *filter,
   seed = from;
 }
 
-// Dated top-k of the ranges that greedy has for k = 10, drawn from the same seeds: with all documents in force, half of them and one in 100, by one list
-// of days each. Then what both take without a search. The seed is put back, as for repeated terms.
-void add_dated(Set &set, const std::vector<Contender> &all, const char *filter, double seconds, const uint64_t *seeds) {
-  static std::deque<Dates> kept;
-  uint64_t from = seed;
-  auto list = [&](const Documents &shown) {
-    uint32_t day = all_days()[below(all_days().size())];
-    kept.push_back({days_of(DOCUMENTS, shown, day), day});
-    return on_day(Query(), kept.back());
-  };
-  auto cells = [&](const char *of, const Query &dated) {
-    uint64_t rest = seed;
-    for (int range = 0; range < 3; range++) {
-      seed = seeds[range];
-      add(set, all, filter, seconds, DATED, range, 10, of, range ? SEVERAL : 1, [=](const Data &d) {
-        Query q = dated, r = range_query(d, range);
-        q.a = r.a;
-        q.b = r.b;
-        q.k = 10;
-        q.allowance = NO_BOUND;
-        return q;
-      });
-    }
-    seed = rest;
-  };
-  Query whole = list(neighbours(*set.terms, DOCUMENTS));
-  cells(" all in force", whole);
-  cells(" half in force", list(any_documents(*set.terms, DOCUMENTS / 2)));
-  cells(" one in 100 in force", list(any_documents(*set.terms, DOCUMENTS / 100)));
-  for (Op op : {GREEDY, DATED}) add(set, all, filter, seconds, op, -1, 0, " k=0", 1, [=](const Data &) { return whole; });
-  seed = from;
-}
-
 void add_cells(Set &set, const std::vector<Contender> &all, const char *filter, double seconds) {
+  // Questions of mixed terms differ much in cost, and so do those of repeated terms and of sets: a batch has several.
+  const size_t several = 16;
   auto cell = [&](Op op, int range, uint32_t k, uint32_t size, auto make) {
-    add(set, all, filter, seconds, op, range, k, size ? " of " + std::to_string(size) : "", range == MIXED ? SEVERAL : 1, make);
+    add(set, all, filter, seconds, op, range, k, size ? " of " + std::to_string(size) : "", range == MIXED ? several : 1, make);
   };
   // Eight terms, two or three of them different. The seed is put back: the other cells have the questions that they have without these.
   auto repeated = [&](Op op, int range, uint32_t k, auto make) {
     uint64_t from = seed;
-    add(set, all, filter, seconds, op, range, k, " of 8 repeated", SEVERAL, [=](const Data &d) {
+    add(set, all, filter, seconds, op, range, k, " of 8 repeated", several, [=](const Data &d) {
       Query q = typed_wet(make(d, 2 + below(2)));
       q.k = k;
       return q;
@@ -1025,7 +842,7 @@ void add_cells(Set &set, const std::vector<Contender> &all, const char *filter, 
     uint64_t from = seed;
     for (Op op : {RANK_SET, RANKS}) {
       seed = from;
-      add(set, all, filter, seconds, op, -1, 0, of, SEVERAL, [=](const Data &d) {
+      add(set, all, filter, seconds, op, -1, 0, of, several, [=](const Data &d) {
         Documents members = make(d);
         return ask_set(members, below(d.entries.size() + 1));
       });
@@ -1067,14 +884,10 @@ void add_cells(Set &set, const std::vector<Contender> &all, const char *filter, 
         return q;
       });
   repeated(CONJUNCTION, 1, 0, different_query);
-  uint64_t seeds[3]; // of greedy with k = 10
   for (Op op : {GREEDY, PROBING})
     for (int range = 0; range < 3; range++)
-      for (uint32_t k : {10u, 100u, DOCUMENTS}) {
-        if (op == GREEDY && k == 10) seeds[range] = seed;
+      for (uint32_t k : {10u, 100u, DOCUMENTS})
         cell(op, range, k, 0, [=](const Data &d) { Query q = range_query(d, range); q.k = k; return q; });
-      }
-  add_dated(set, all, filter, seconds, seeds);
   for (uint32_t size : {2, 8}) {
     uint64_t from = seed;
     for (uint32_t k : {10u, DOCUMENTS}) {

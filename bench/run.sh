@@ -1,7 +1,6 @@
 #!/bin/sh
 # bench/run.sh [SECONDS [FILTER]]: builds the proved library and its peers, verifies them against the scan, and times all side by side.
-# SECONDS: for each cell, all contenders together (2). FILTER: only cells with this in "data operation range k", as "skewed greedy"; "dated|greedy" has
-# those with one or the other.
+# SECONDS: for each cell, all contenders together (2). FILTER: only cells with this in "data operation range k", as "skewed greedy".
 # Prints our time and its ratio to each peer's, with the sizes, and draws the plots (without python3: the whole table alone).
 # CXX: the compiler, clang++ where it is there. VERIFY_ONLY=1: no timing.
 # BEFORE: the libmasuvelior.a of another commit, which then takes part as 'before'.
@@ -15,7 +14,7 @@ mkdir -p build
 (cd "$root" && rt staticlib masuvelior) >build/staticlib.log 2>&1 || { tail build/staticlib.log; exit 1; }
 objects=
 peer() { # NAME TIGHT FLAGS
-  for part in peer dated weighted boolean rank_set rarest_first; do
+  for part in peer weighted boolean rank_set rarest_first; do
     $CXX $flags -DPEER="$1" -DTIGHT="$2" $3 -c $part.cpp -o "build/$1_$part.o"
     objects="$objects build/$1_$part.o"
   done
@@ -38,8 +37,8 @@ if [ -n "$BEFORE" ]; then
   objects="$objects build/before.o build/before.a"
   # The questions that it lacks are not asked of it.
   lacks=
-  for op in BOOLEAN RANK_SET RAREST_FIRST DATED; do
-    grep -qiE "^masuvelior_$op(_entries)? " build/before.names || lacks="$lacks$op,"
+  for op in BOOLEAN RANK_SET RAREST_FIRST; do
+    grep -qi "^masuvelior_$op " build/before.names || lacks="$lacks$op,"
   done
   before="-DBEFORE -DBEFORE_LACKS=$lacks"
 fi
@@ -51,7 +50,7 @@ if [ -f "$library" ]; then
   sdsl=-DSDSL
   for way in plain popcnt; do
     object=build/sdsl_$way.o
-    if [ ! -f "$object" ] || [ -n "$(find sdsl.cpp contender.h terms.h question.h days.h abi.h -newer "$object")" ]; then
+    if [ ! "$object" -nt sdsl.cpp ] || [ ! "$object" -nt contender.h ] || [ ! "$object" -nt terms.h ] || [ ! "$object" -nt question.h ]; then
       suffix=" nopop"
       more=
       [ $way = popcnt ] && suffix="" && more=-msse4.2

@@ -1,7 +1,6 @@
 // The plain scan: entries of 16 bits, counted in an array of N counters, or sorted where the range is short. First places come with the counts.
-// The other contenders are verified against it. Its top-k is one, under greedy and under probing, and under dated of the documents in force.
+// The other contenders are verified against it. Its top-k is one, under greedy and under probing.
 #include "contender.h"
-#include "days.h"
 #include "question.h"
 #include "terms.h"
 #include <algorithm>
@@ -177,22 +176,21 @@ uint64_t conjunction(void *p, const Query &q, uint32_t *answers) {
   return found;
 }
 
-// Top-k of the documents that are shown. A key has the count, and then the document reversed. In a short range it takes the place of an entry that is
-// done with: of its document, or of one before.
-template <class Shown> uint64_t top_k_of(Scan &x, const Query &q, uint32_t *answers, Shown shown) {
+// A key has the count, and then the document reversed. In a short range it takes the place of the first of its document's entries, which are done with.
+uint64_t top_k(void *p, const Query &q, uint32_t *answers) {
+  Scan &x = *(Scan *)p;
   uint32_t *keys = x.keys.data();
   size_t found = 0;
   if (is_short(x, q.b - q.a)) {
-    each_sorted(x, q.a, q.b, [&](size_t, uint32_t d, uint32_t count, uint32_t first) {
-      keys[found] = count << 16 | (65535 - d);
-      found += shown(d);
+    found = each_sorted(x, q.a, q.b, [&](size_t i, uint32_t d, uint32_t count, uint32_t first) {
+      keys[i] = count << 16 | (65535 - d);
       x.firsts[d] = (uint16_t)first;
     });
   } else {
     count_with_firsts(x, q.a, q.b);
     for (uint32_t d = 0; d < x.documents; d++) {
       keys[found] = x.counts[d] << 16 | (65535 - d);
-      found += (size_t)(x.counts[d] != 0) & shown(d);
+      found += x.counts[d] != 0;
     }
   }
   size_t k = std::min<size_t>(q.k, found);
@@ -205,16 +203,6 @@ template <class Shown> uint64_t top_k_of(Scan &x, const Query &q, uint32_t *answ
     answers[3 * i + 2] = x.firsts[d];
   }
   return k;
-}
-
-uint64_t top_k(void *p, const Query &q, uint32_t *answers) {
-  return top_k_of(*(Scan *)p, q, answers, [](uint32_t) { return true; });
-}
-
-uint64_t dated(void *p, const Query &q, uint32_t *answers) {
-  Scan &x = *(Scan *)p;
-  if (!days_hold(q.days, q.size, q.day, x.documents)) return REFUSED;
-  return top_k_of(x, q, answers, [&](uint32_t d) { return in_force(q.days, q.day, d); });
 }
 
 // The largest g with df^4 at most N^4 / 2^g.
@@ -298,5 +286,5 @@ uint64_t rarest_first(void *p, const Query &q, uint32_t *order) {
 }
 
 Contender scan_contender() {
-  return {"scan", build, drop, bytes, {nullptr, nullptr, nullptr, access, rank, rank_set, ranks, select, quantile, list, conjunction, top_k, top_k, weighted, boolean, rarest_first, dated}};
+  return {"scan", build, drop, bytes, {nullptr, nullptr, nullptr, access, rank, rank_set, ranks, select, quantile, list, conjunction, top_k, top_k, weighted, boolean, rarest_first}};
 }

@@ -1,7 +1,6 @@
 // sdsl-lite's wavelet trees: wt_int as it comes, and with rank_support_v5 and no select index, which has about the size of our rows and samples.
 // SDSL_ENTRY names the one function that the harness sees, SDSL_SUFFIX ends the contenders' names.
 #include "contender.h"
-#include "days.h"
 #include "question.h"
 #include "terms.h"
 #include <algorithm>
@@ -109,8 +108,8 @@ template <class Tree, bool INDEXED> struct Peer {
     }
     return found;
   }
-  // Top-k of the documents that are shown; the others are dropped once they are named.
-  template <class Shown> static uint64_t search(Index &x, const Query &q, uint32_t *answers, Shown shown) {
+  static uint64_t greedy(void *p, const Query &q, uint32_t *answers) {
+    Index &x = *(Index *)p;
     const Tree &tree = x.tree;
     auto &queue = x.queue;
     uint64_t listed = 0;
@@ -127,7 +126,6 @@ template <class Tree, bool INDEXED> struct Peer {
       queue.pop_back();
       if (tree.is_leaf(w.node)) {
         uint32_t d = (uint32_t)tree.sym(w.node);
-        if (!shown(d)) continue;
         answers[3 * listed] = d;
         answers[3 * listed + 1] = (uint32_t)(w.key >> 32);
         answers[3 * listed++ + 2] = first_place(tree, q.a, q.b, d, tree.rank(q.a, d));
@@ -139,14 +137,6 @@ template <class Tree, bool INDEXED> struct Peer {
         if (!sdsl::empty(ranges[i])) wait(nodes[i], ranges[i]);
     }
     return listed;
-  }
-  static uint64_t greedy(void *p, const Query &q, uint32_t *answers) {
-    return search(*(Index *)p, q, answers, [](uint32_t) { return true; });
-  }
-  static uint64_t dated(void *p, const Query &q, uint32_t *answers) {
-    Index &x = *(Index *)p;
-    if (!days_hold(q.days, q.size, q.day, x.documents)) return REFUSED;
-    return search(x, q, answers, [&](uint32_t d) { return in_force(q.days, q.day, d); });
   }
   static uint64_t probing(void *p, const Query &q, uint32_t *answers) {
     Index &x = *(Index *)p;
@@ -198,7 +188,7 @@ template <class Tree, bool INDEXED> struct Peer {
     return put_matching(question, bitmaps, x.documents, answers);
   }
   static Contender contender(const char *name) {
-    return {name, build, drop, bytes, {nullptr, nullptr, nullptr, access, rank, nullptr, ranks, select, quantile, list, conjunction, greedy, probing, nullptr, boolean, nullptr, dated}};
+    return {name, build, drop, bytes, {nullptr, nullptr, nullptr, access, rank, nullptr, ranks, select, quantile, list, conjunction, greedy, probing, nullptr, boolean, nullptr}};
   }
 };
 

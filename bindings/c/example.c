@@ -122,58 +122,6 @@ static void search(void) {
   say("probing term 0, 1", code, answers, 3 * listed);
 }
 
-/* Which numbers are days: the first and the last of them, leap days, and what is beside these. */
-static void check_days(void) {
-  const uint32_t numbers[] = {20000101, 21991231, 20000229, 20240229, 21000228, 21000301, 21960229, 20260430, 19991231, 22000101, 21000229,
-                              20230229, 20240230, 20260431, 20261301, 20260001, 20260100, 20260132, 0, UINT32_MAX};
-  for (size_t i = 0; i < sizeof numbers / sizeof numbers[0]; i++) {
-    char name[32];
-    snprintf(name, sizeof name, "day %u", (unsigned)numbers[i]);
-    say(name, masuvelior_check_day(numbers[i]), numbers, 0);
-  }
-}
-
-/* Document 0 is in force to the end of 2099, document 1 on one leap day, document 2 always, document 3 from 1 March 2100 on. */
-static const uint32_t days[MASUVELIOR_DAYS_LENGTH(N)] = {20000101, 20991231, 20240229, 20240229, 20000101, 21991231, 21000301, 21991231};
-
-typedef uint32_t dated_search(const uint8_t *, size_t, uint32_t, uint32_t, uint32_t, uint32_t, const uint32_t *, size_t, uint32_t,
-                              uint32_t *, size_t, uint32_t *, size_t, uint32_t *, uint32_t *, uint32_t *);
-static dated_search *const of_entries[] = {masuvelior_dated_entries, masuvelior_opened_dated_entries};
-static dated_search *const of_terms[] = {masuvelior_dated_terms, masuvelior_opened_dated_terms};
-
-/* A dated search, put to the checked function and to that of an opened archive: two lines for each, as for a greedy search. */
-static void date(const char *name, dated_search *const search[2], uint32_t from, uint32_t to, uint32_t k, uint32_t allowance, uint32_t day) {
-  for (int opened = 0; opened < 2; opened++) {
-    uint32_t answers[3 * N], work[4 * N], listed = 0, end[2] = {9, 9};
-    uint32_t code = search[opened](archive, size, from, to, k, allowance, days, MASUVELIOR_DAYS_LENGTH(N), day, answers, 3 * N, work, 4 * N,
-                                   &listed, &end[0], &end[1]);
-    say(opened ? "  opened" : name, code, answers, 3 * listed);
-    say(end[0] == 0 ? "  done" : "  spent", code, end, 2);
-  }
-}
-
-/* Both days of a document are included. Of the entries 4 to 6, which are 2 and 1, document 2 needs three openings, also where document 1 is not in
- * force. Of the entries 5 to 7, which are 1 and 3, document 1 needs two; that no other is in force takes a third. */
-static void date_all(void) {
-  date("dated 0 to 8, 2, 9, on 20240229", of_entries, 0, 8, 2, 9, 20240229);
-  date("dated 0 to 8, 2, 9, on 20240228", of_entries, 0, 8, 2, 9, 20240228);
-  date("dated 0 to 8, 4, 9, on 20240301", of_entries, 0, 8, 4, 9, 20240301);
-  date("dated 0 to 8, 2, 9, on 20991231", of_entries, 0, 8, 2, 9, 20991231);
-  date("dated 0 to 8, 2, 9, on 21000228", of_entries, 0, 8, 2, 9, 21000228);
-  date("dated 0 to 8, 2, 9, on 21000301", of_entries, 0, 8, 2, 9, 21000301);
-  date("dated 4 to 6, 1, 2, on 20240229", of_entries, 4, 6, 1, 2, 20240229);
-  date("dated 4 to 6, 1, 2, on 20240228", of_entries, 4, 6, 1, 2, 20240228);
-  date("dated 4 to 6, 1, 3, on 20240228", of_entries, 4, 6, 1, 3, 20240228);
-  date("dated 5 to 7, 3, 2, on 20240229", of_entries, 5, 7, 3, 2, 20240229);
-  date("dated 5 to 7, 3, 3, on 20240229", of_entries, 5, 7, 3, 3, 20240229);
-  date("dated 1 to 2, 1, 9, on 21000101", of_entries, 1, 2, 1, 9, 21000101);
-  date("dated 4 to 4, 5, 0, on 20240229", of_entries, 4, 4, 5, 0, 20240229);
-  date("dated 0 to 8, 0, 0, on 20240229", of_entries, 0, 8, 0, 0, 20240229);
-  date("dated term 2, 2, 9, on 20240229", of_terms, 2, 2, 2, 9, 20240229);
-  date("dated terms 0 to 2, 1, 2, on 21991231", of_terms, 0, 2, 1, 2, 21991231);
-  date("dated term 1, 2, 0, on 20000101", of_terms, 1, 1, 2, 0, 20000101);
-}
-
 /* Rare terms weigh more: terms 0 and 2 have three and four of the four documents and weigh 1 and 0, term 1 has none and weighs 0. Documents
  * of score 0 are listed too, but those without an entry are not. Term 0 given twice counts once, and terms may be typed in any order. */
 static void weigh(void) {
@@ -370,37 +318,6 @@ static void refusals(void) {
   say("  order", 0, order, MASUVELIOR_MAX_CHOSEN);
 }
 
-/* A dated search that is refused, by both functions: it leaves what is lent as it was. */
-static void refuse_dated(const char *name, const uint32_t *listed_days, size_t length, uint32_t b, uint32_t day, size_t room, size_t work_length) {
-  for (int opened = 0; opened < 2; opened++) {
-    uint32_t answers[3 * N] = {5}, work[4 * N] = {6}, kept[5] = {98, 97, 96};
-    uint32_t code = of_entries[opened](archive, size, 0, b, 2, 9, listed_days, length, day, answers, room, work, work_length, &kept[0],
-                                       &kept[1], &kept[2]);
-    kept[3] = answers[0];
-    kept[4] = work[0];
-    say(opened ? "  opened" : name, code, kept, 5);
-  }
-}
-
-/* Refusal 20 comes after 11 and before 12 and 13. */
-static void refusals_of_days(void) {
-  const uint32_t longer[2 * N + 1] = {20000101, 20000101, 20000101, 20000101, 20000101, 20000101, 20000101, 20000101, 20000101};
-  const uint32_t unborn[] = {20000101, 20991231, 20240229, 20240229, 20000101, 21991231, 21000229, 21991231};
-  const uint32_t endless[] = {20000101, 99991231, 20240229, 20240229, 20000101, 21991231, 21000301, 21991231};
-  const uint32_t crossed[] = {20000101, 20991231, 20240301, 20240229, 20000101, 21991231, 21000301, 21991231};
-  refuse_dated("dated, one day fewer", days, 2 * N - 1, 8, 20240229, 6, 4 * N);
-  refuse_dated("dated, one day more", longer, 2 * N + 1, 8, 20240229, 6, 4 * N);
-  refuse_dated("dated, no days", days, 0, 8, 20240229, 6, 4 * N);
-  refuse_dated("dated, on 21000229", days, 2 * N, 8, 21000229, 6, 4 * N);
-  refuse_dated("dated, from 21000229", unborn, 2 * N, 8, 20240229, 6, 4 * N);
-  refuse_dated("dated, to 99991231", endless, 2 * N, 8, 20240229, 6, 4 * N);
-  refuse_dated("dated, a first day after its last", crossed, 2 * N, 8, 20240229, 6, 4 * N);
-  refuse_dated("dated, on 0, past the end", days, 2 * N, 9, 0, 6, 4 * N);
-  refuse_dated("dated, on 0, short answers and work", days, 2 * N, 8, 0, 5, 4 * N - 1);
-  refuse_dated("dated, short answers and work", days, 2 * N, 8, 20240229, 5, 4 * N - 1);
-  refuse_dated("dated, short work", days, 2 * N, 8, 20240229, 6, 4 * N - 1);
-}
-
 int main(int argc, char **argv) {
   static char expected[sizeof said];
   write_library();
@@ -408,15 +325,12 @@ int main(int argc, char **argv) {
   ask();
   count_all();
   search();
-  check_days();
-  date_all();
   weigh();
   arrange_all();
   match_all();
   ask_opened();
   walk();
   refusals();
-  refusals_of_days();
   fputs(said, stdout);
   FILE *file = argc == 2 ? fopen(argv[1], "rb") : NULL;
   if (file == NULL) {

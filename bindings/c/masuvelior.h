@@ -3,9 +3,8 @@
  * The library is target/staticlib/libmasuvelior.a, which `rt staticlib masuvelior` proves and builds, for x86-64 Linux. It needs no other
  * library than C's, of that memcpy and memset alone, has no state, allocates nothing and may be called from several threads at once. Of the
  * stack a call takes up to 25 KB (masuvelior_write), 22 KB (masuvelior_boolean, masuvelior_list and masuvelior_list_terms), 17 KB
- * (masuvelior_read), 7 KB (masuvelior_weighted), 6 KB (masuvelior_rank_set, the greedy search, the dated one and probing) or 4 KB (all
- * others), each of these also in its opened form; a program that binds memcpy and memset at their first call lets the loader take 3 KB more
- * there.
+ * (masuvelior_read), 7 KB (masuvelior_weighted), 6 KB (masuvelior_rank_set, the greedy search and probing) or 4 KB (all others), each of
+ * these also in its opened form; a program that binds memcpy and memset at their first call lets the loader take 3 KB more there.
  *
  * The answer of each function is 0, or the number of a refusal (enum masuvelior_refusal). Where it is 0 each out-parameter is written, and
  * the lent slices as the function says. Where it is not 0 nothing is written at all.
@@ -39,16 +38,14 @@
  * added questions with and, or, not (masuvelior_boolean). From 4.0 on masuvelior_per_mille rounds to the nearest; before, down. 4.1 added
  * the count of a set of documents (masuvelior_rank_set). 4.2 added the order in which a weighted score is added up
  * (masuvelior_rarest_first). From 5.0 on list, greedy and probing (masuvelior_list, masuvelior_greedy_entries, masuvelior_probing_entries, and
- * the same of terms) answer three numbers a document, the third its first place, and ask for room for them; before, two. 5.1 added the dated
- * search, of documents in force on a day (masuvelior_dated_entries, and the same of terms), and masuvelior_check_day. */
+ * the same of terms) answer three numbers a document, the third its first place, and ask for room for them; before, two. */
 #define MASUVELIOR_EDITION 1
 #define MASUVELIOR_VERSION_MAJOR 5
-#define MASUVELIOR_VERSION_MINOR 1
+#define MASUVELIOR_VERSION_MINOR 0
 
 /* The limits: n is 0 to MASUVELIOR_MAX_ENTRIES, N and W are 1 to theirs, a conjunction, an order of terms or a weighted search is given 1
  * to MASUVELIOR_MAX_CHOSEN terms, a question with and, or, not has 1 to MASUVELIOR_MAX_QUESTION numbers and at most MASUVELIOR_MAX_DEPTH
- * brackets open at once, a set has 0 to MASUVELIOR_MAX_SET documents, and a day is MASUVELIOR_FIRST_DAY to MASUVELIOR_LAST_DAY
- * (masuvelior_check_day). */
+ * brackets open at once, and a set has 0 to MASUVELIOR_MAX_SET documents. */
 #define MASUVELIOR_MAX_ENTRIES 65535
 #define MASUVELIOR_MAX_DOCUMENTS 4096
 #define MASUVELIOR_MAX_TERMS 4096
@@ -56,8 +53,6 @@
 #define MASUVELIOR_MAX_QUESTION 64
 #define MASUVELIOR_MAX_DEPTH 8
 #define MASUVELIOR_MAX_SET 64
-#define MASUVELIOR_FIRST_DAY 20000101
-#define MASUVELIOR_LAST_DAY 21991231
 
 /* The marks in a question with and, or, not. A number below MASUVELIOR_MAX_TERMS is a term. */
 #define MASUVELIOR_AND 60000
@@ -67,15 +62,13 @@
 #define MASUVELIOR_CLOSE 60004
 
 /* How many numbers are asked for: in the answer slice of list, of a conjunction, and of a question with and, or, not; in that of top-k by count,
- * greedy, dated or probing, and in that of the weighted search; in the work slice of these four; and, no more and no fewer, in the list of days
- * of the dated search. */
+ * greedy or probing, and in that of the weighted search; and in the work slice of these three. */
 #define MASUVELIOR_LIST_LENGTH(documents) (3 * (size_t)(documents))
 #define MASUVELIOR_CONJUNCTION_LENGTH(documents) (2 * (size_t)(documents))
 #define MASUVELIOR_BOOLEAN_LENGTH(documents) ((size_t)(documents))
 #define MASUVELIOR_TOP_K_LENGTH(k, documents) (3 * (size_t)((k) < (documents) ? (k) : (documents)))
 #define MASUVELIOR_WEIGHTED_LENGTH(k, documents) (2 * (size_t)((k) < (documents) ? (k) : (documents)))
 #define MASUVELIOR_WORK_LENGTH(documents) (4 * (size_t)(documents))
-#define MASUVELIOR_DAYS_LENGTH(documents) (2 * (size_t)(documents))
 
 /* A pointer to lend for a slice that may be empty: p, or where p is NULL one that is aligned and leads to nothing, as
  * MASUVELIOR_LENT(const uint32_t, terms.data()) in C++. The length must be 0 then. It evaluates p twice. */
@@ -96,8 +89,7 @@
 extern "C" {
 #endif
 
-/* Why an operation refused. The lowest number that applies is given, but 18 comes before 11 and 12, 19 before 11, and 20 after 11 and before
- * 12. */
+/* Why an operation refused. The lowest number that applies is given, but 18 comes before 11 and 12, and 19 before 11. */
 enum masuvelior_refusal {
   MASUVELIOR_OK = 0, /* not refused */
   /* opening */
@@ -124,9 +116,7 @@ enum masuvelior_refusal {
   /* a question with and, or, not */
   MASUVELIOR_REFUSED_QUESTION = 18, /* a question that is empty, too long, too deep or without a reading */
   /* a set of documents */
-  MASUVELIOR_REFUSED_SET = 19, /* a set that is too long or not strictly ascending */
-  /* days */
-  MASUVELIOR_REFUSED_DAYS = 20 /* a list without just two days a document, a day outside the limits or not in the calendar, or a first day after the last */
+  MASUVELIOR_REFUSED_SET = 19 /* a set that is too long or not strictly ascending */
 };
 
 /* ---- the archive */
@@ -256,13 +246,6 @@ uint32_t masuvelior_rarest_first(const uint8_t *archive, size_t archive_length, 
 MASUVELIOR_MUST_USE
 uint32_t masuvelior_per_mille(uint32_t count, uint32_t size, uint32_t *rate);
 
-/* Whether a number is a day: 0 where it is, else 20. A day is the decimal number of year, month and day, four digits and twice two, in the
- * Gregorian calendar of ISO 8601, from 20000101 to 21991231 (MASUVELIOR_FIRST_DAY, MASUVELIOR_LAST_DAY). So 20000229 is a day and 21000229 is
- * none: 21000228 is followed by 21000301. Of two days the larger number is the later one. Takes no archive and writes nothing. Cost: some
- * steps. */
-MASUVELIOR_MUST_USE
-uint32_t masuvelior_check_day(uint32_t day);
-
 /* ---- top-k: the first k documents of a range by larger count, three numbers each, or of chosen terms by larger score, as pairs; equal ones by
  * lower number
  *
@@ -285,31 +268,6 @@ MASUVELIOR_MUST_USE
 uint32_t masuvelior_greedy_terms(const uint8_t *archive, size_t archive_length, uint32_t first, uint32_t last, uint32_t k,
                                  uint32_t allowance, uint32_t *answers, size_t answers_length, uint32_t *work, size_t work_length,
                                  uint32_t *listed, uint32_t *spent, uint32_t *number);
-
-/* The dated search of the entries a to b: the greedy search of the documents that are in force on a day. `days` has two days a document, from
- * document 0 on, its first and its last (MASUVELIOR_DAYS_LENGTH); it is in force from the one to the other, both included. The range's documents
- * come in the usual order, those that are not in force drop out, and the first k of what is left are listed, or all if there are fewer.
- * `spent` and `number` are as in masuvelior_greedy_entries, and an opening is counted as there, also one that only leads to documents that drop
- * out. Where k documents or more of the range are in force, the openings up to the last one listed are needed, and none for k 0; where fewer
- * are, every node of two or more numbers with an entry of the range in it is to be opened. Where the allowance is spent first, listed are the
- * documents in force that it covers, each counted up to itself: these may be all of them. Where all documents are in force, it answers as
- * masuvelior_greedy_entries does.
- * 11: a > b, b > n. 20, after 11 and before 12: `days` has more or fewer than 2 * N numbers, one of them or `day` is no day
- * (masuvelior_check_day), or a first day is after its last.
- * Cost: one pass over the days. Then that of the greedy search: 4 ranks for each node opened, so at most 4 * allowance; for each node opened or
- * document named, also one that drops out, a step in a heap of the waiting nodes; for each document listed a walk down the tree and back, which
- * finds its first place; and 4 * N numbers cleared. */
-MASUVELIOR_MUST_USE
-uint32_t masuvelior_dated_entries(const uint8_t *archive, size_t archive_length, uint32_t a, uint32_t b, uint32_t k, uint32_t allowance,
-                                  const uint32_t *days, size_t days_length, uint32_t day, uint32_t *answers, size_t answers_length,
-                                  uint32_t *work, size_t work_length, uint32_t *listed, uint32_t *spent, uint32_t *number);
-
-/* The same of the terms first to last. 11: first > last, a term W or more. */
-MASUVELIOR_MUST_USE
-uint32_t masuvelior_dated_terms(const uint8_t *archive, size_t archive_length, uint32_t first, uint32_t last, uint32_t k,
-                                uint32_t allowance, const uint32_t *days, size_t days_length, uint32_t day, uint32_t *answers,
-                                size_t answers_length, uint32_t *work, size_t work_length, uint32_t *listed, uint32_t *spent,
-                                uint32_t *number);
 
 /* The whole answer by probing, without an allowance, of the entries a to b. 11: a > b, b > n.
  * Cost: 4 * h ranks for each probe. Where the last of k documents has count c, there are fewer than 2 * (b - a) / c probes, and never more than
@@ -344,7 +302,7 @@ uint32_t masuvelior_weighted(const uint8_t *archive, size_t archive_length, cons
 /* ---- the same for an archive that was opened before, without the check
  *
  * What the caller keeps beside the above: masuvelior_open answered 0 for these very bytes and this length, and they are unchanged since.
- * Then each answers, writes and refuses (10 to 13, 18 to 20) as its namesake above. Of other bytes nothing is promised. */
+ * Then each answers, writes and refuses (10 to 13, 18 and 19) as its namesake above. Of other bytes nothing is promised. */
 
 MASUVELIOR_MUST_USE
 uint32_t masuvelior_opened_read(const uint8_t *archive, size_t archive_length,
@@ -405,18 +363,6 @@ MASUVELIOR_MUST_USE
 uint32_t masuvelior_opened_greedy_terms(const uint8_t *archive, size_t archive_length, uint32_t first, uint32_t last, uint32_t k,
                                         uint32_t allowance, uint32_t *answers, size_t answers_length, uint32_t *work,
                                         size_t work_length, uint32_t *listed, uint32_t *spent, uint32_t *number);
-
-MASUVELIOR_MUST_USE
-uint32_t masuvelior_opened_dated_entries(const uint8_t *archive, size_t archive_length, uint32_t a, uint32_t b, uint32_t k,
-                                         uint32_t allowance, const uint32_t *days, size_t days_length, uint32_t day, uint32_t *answers,
-                                         size_t answers_length, uint32_t *work, size_t work_length, uint32_t *listed, uint32_t *spent,
-                                         uint32_t *number);
-
-MASUVELIOR_MUST_USE
-uint32_t masuvelior_opened_dated_terms(const uint8_t *archive, size_t archive_length, uint32_t first, uint32_t last, uint32_t k,
-                                       uint32_t allowance, const uint32_t *days, size_t days_length, uint32_t day, uint32_t *answers,
-                                       size_t answers_length, uint32_t *work, size_t work_length, uint32_t *listed, uint32_t *spent,
-                                       uint32_t *number);
 
 MASUVELIOR_MUST_USE
 uint32_t masuvelior_opened_probing_entries(const uint8_t *archive, size_t archive_length, uint32_t a, uint32_t b, uint32_t k,

@@ -17,7 +17,7 @@ static const uint32_t chosen[MASUVELIOR_MAX_CHOSEN] = {7, 6, 5, 4, 3, 2, 1, 0};
 static uint32_t entries[ENTRIES], lengths[W], answers[3 * N], work[4 * N], listed, spent, number;
 static uint32_t order[MASUVELIOR_MAX_CHOSEN];
 static uint16_t question[MASUVELIOR_MAX_QUESTION];
-static uint32_t set[MASUVELIOR_MAX_SET], days[2 * N];
+static uint32_t set[MASUVELIOR_MAX_SET];
 static uint8_t archive[1 << 18];
 static size_t size, needed;
 
@@ -43,19 +43,10 @@ static void make_set(void) {
   set[MASUVELIOR_MAX_SET - 1] = N - 1;
 }
 
-/* Every third document is not in force on the asked day: it drops out. */
-static void make_days(void) {
-  for (uint32_t d = 0; d < N; d++) {
-    days[2 * d] = MASUVELIOR_FIRST_DAY;
-    days[2 * d + 1] = d % 3 == 0 ? MASUVELIOR_FIRST_DAY : MASUVELIOR_LAST_DAY;
-  }
-}
-
 /* Every function: the end of its name, its bound, the call. */
 #define BYTES archive, size
 #define ANSWERS answers, 3 * N, &listed
 #define SEARCH answers, 3 * N, work, 4 * N, &listed
-#define DATED days, 2 * N, MASUVELIOR_LAST_DAY
 #define QUESTIONS(X, form)                                                                                   \
   X(form##read, READER, (BYTES, entries, ENTRIES, lengths, W, &listed, &spent, &number))                     \
   X(form##access, OTHER, (BYTES, 12345, &number))                                                            \
@@ -72,8 +63,6 @@ static void make_days(void) {
   X(form##rarest_first, OTHER, (BYTES, chosen, MASUVELIOR_MAX_CHOSEN, order, &number))                       \
   X(form##greedy_entries, TOP_K, (BYTES, 0, ENTRIES, N, UINT32_MAX, SEARCH, &spent, &number))                \
   X(form##greedy_terms, TOP_K, (BYTES, 0, W - 1, N, UINT32_MAX, SEARCH, &spent, &number))                    \
-  X(form##dated_entries, TOP_K, (BYTES, 0, ENTRIES, N, UINT32_MAX, DATED, SEARCH, &spent, &number))          \
-  X(form##dated_terms, TOP_K, (BYTES, 0, W - 1, N, UINT32_MAX, DATED, SEARCH, &spent, &number))              \
   X(form##probing_entries, TOP_K, (BYTES, 0, ENTRIES, N, SEARCH))                                            \
   X(form##probing_terms, TOP_K, (BYTES, 0, W - 1, N, SEARCH))                                                \
   X(form##weighted, WEIGHTED, (BYTES, chosen, MASUVELIOR_MAX_CHOSEN, N, UINT32_MAX, SEARCH, &spent, &number))
@@ -82,7 +71,6 @@ static void make_days(void) {
   X(write, WRITER, (entries, ENTRIES, lengths, W, N, archive, sizeof archive, &size))                        \
   X(open, OTHER, (BYTES, &listed, &spent, &number))                                                          \
   X(per_mille, OTHER, (3, 16, &number))                                                                      \
-  X(check_day, OTHER, (20240229))                                                                            \
   QUESTIONS(X, )                                                                                             \
   QUESTIONS(X, opened_)
 
@@ -122,7 +110,6 @@ int main(void) {
   make_library();
   make_question();
   make_set();
-  make_days();
   for (size_t i = 0; i < count; i++) {
     size_t bytes = used(calls[i].call);
     others += calls[i].bound == OTHER;

@@ -67,29 +67,6 @@ void list(std::vector<uint8_t> &archive) {
   expect("a list of no entries", terms == MASUVELIOR_OK && listed == 0 && answers == std::vector<uint32_t>(15, 9));
 }
 
-// The dated search: an empty list of days is refused before an empty answer slice is, and after a range past the end. Documents without entries
-// are not listed, in force or not, and the work slice is cleared.
-void date(std::vector<uint8_t> &archive) {
-  uint32_t listed = 9, spent = 9, number = 9;
-  std::vector<uint32_t> none, answers(MASUVELIOR_TOP_K_LENGTH(2, 5), 9), work(MASUVELIOR_WORK_LENGTH(5) + 1, 9);
-  const std::vector<uint32_t> days(MASUVELIOR_DAYS_LENGTH(5), MASUVELIOR_FIRST_DAY);
-  const uint32_t past = masuvelior_dated_entries(lent(archive), archive.size(), 0, 1, 2, 0, lent(none), none.size(), MASUVELIOR_LAST_DAY,
-                                                 lent(none), none.size(), lent(none), none.size(), &listed, &spent, &number);
-  expect("dated, past the end", past == MASUVELIOR_REFUSED_ARGUMENT && listed == 9);
-  const uint32_t empty = masuvelior_dated_terms(lent(archive), archive.size(), 0, 1, 2, 0, lent(none), none.size(), MASUVELIOR_LAST_DAY,
-                                                lent(none), none.size(), lent(none), none.size(), &listed, &spent, &number);
-  expect("no days", empty == MASUVELIOR_REFUSED_DAYS && listed == 9 && spent == 9 && number == 9);
-  const uint32_t small = masuvelior_opened_dated_entries(lent(archive), archive.size(), 0, 0, 2, 0, lent(days), days.size(),
-                                                         MASUVELIOR_LAST_DAY, lent(none), none.size(), lent(work), work.size(), &listed,
-                                                         &spent, &number);
-  expect("no room for a dated search", small == MASUVELIOR_REFUSED_ANSWER_SLICE && work == std::vector<uint32_t>(21, 9));
-  const uint32_t found = masuvelior_opened_dated_terms(lent(archive), archive.size(), 0, 1, 2, 0, lent(days), days.size(),
-                                                       MASUVELIOR_FIRST_DAY, lent(answers), answers.size(), lent(work), work.size(),
-                                                       &listed, &spent, &number);
-  expect("a dated search of no entries", found == MASUVELIOR_OK && listed == 0 && spent == 0 && number == 0 && answers[0] == 9);
-  expect("its work slice", work[0] == 0 && work[19] == 0 && work[20] == 9);
-}
-
 // Sets of documents: an empty one counts 0, and is refused where the place is past the end; one that does not ascend is refused before that.
 void count(std::vector<uint8_t> &archive) {
   uint32_t counted = 9;
@@ -143,7 +120,6 @@ int main() {
   std::vector<uint8_t> archive = without_entries();
   ask(archive);
   list(archive);
-  date(archive);
   count(archive);
   arrange(archive);
   match(archive);
@@ -151,8 +127,5 @@ int main() {
   expect("macros of lengths by score", MASUVELIOR_WEIGHTED_LENGTH(UINT32_MAX, 4u) == 8 && MASUVELIOR_WEIGHTED_LENGTH(3, 4) == 6);
   expect("macros of lengths of lists", MASUVELIOR_LIST_LENGTH(4) == 12 && MASUVELIOR_CONJUNCTION_LENGTH(4) == 8);
   expect("macros of other lengths", MASUVELIOR_BOOLEAN_LENGTH(4) == 4 && MASUVELIOR_WORK_LENGTH(4) == 16);
-  expect("macro of the length of days", MASUVELIOR_DAYS_LENGTH(4) == 8);
-  expect("macros of days", masuvelior_check_day(MASUVELIOR_FIRST_DAY) == MASUVELIOR_OK && masuvelior_check_day(MASUVELIOR_LAST_DAY) == 0);
-  expect("no days beside them", masuvelior_check_day(MASUVELIOR_FIRST_DAY - 1) == 20 && masuvelior_check_day(MASUVELIOR_LAST_DAY + 1) == 20);
   return failed;
 }

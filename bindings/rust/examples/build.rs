@@ -2,7 +2,7 @@
 //!
 //!     cargo run --example build -- harbour.archive
 use masuvelior::Over::Terms;
-use masuvelior::{per_mille, write, Archive, Day, Expr, Refusal, Validity};
+use masuvelior::{per_mille, write, Archive, Expr, Refusal};
 use std::collections::BTreeMap;
 use std::error::Error;
 
@@ -36,7 +36,6 @@ fn main() -> Result<(), Box<dyn Error>> {
     }
 
     by_score(&archive, &numbers)?;
-    on_a_day(&archive)?;
 
     println!("'harbour' or 'boat', and not 'storm':");
     let term = |word: &str| Expr::term(numbers[word]);
@@ -78,23 +77,6 @@ fn by_score(archive: &Archive, numbers: &BTreeMap<&str, u32>) -> Result<(), Refu
     let words: Vec<&str> = numbers.keys().copied().collect(); // a term's number is its place in the dictionary
     for term in archive.rarest_first(&["the", "tide", "storm", "the"].map(|word| numbers[word]))? {
         println!("  {}, {} entries", words[term as usize], archive.range_of_terms(term..=term)?.len());
-    }
-    Ok(())
-}
-
-/// The texts as they stood on a day: each was in force for one year, and the last of them still is.
-fn on_a_day(archive: &Archive) -> Result<(), Refusal> {
-    let mut days = Vec::new();
-    for year in 2026..=2030 {
-        days.push(Validity::new(Day::of(year, 1, 1)?, Day::of(year, 12, 31)?)?);
-    }
-    days[4] = Validity::new(days[4].first(), Day::LAST)?;
-    for day in [Day::of(2026, 12, 31)?, Day::of(2027, 1, 1)?, Day::of(2100, 2, 28)?] {
-        println!("most entries on {day}:");
-        let (found, _) = archive.dated(Terms(0..=archive.terms() - 1), 1, u32::MAX, &days, day)?;
-        for counted in found {
-            println!("  {} entries: {}", counted.count, TEXTS[counted.document as usize]);
-        }
     }
     Ok(())
 }

@@ -12,7 +12,7 @@
 //!
 //! ```
 //! use masuvelior::Over::{Entries, Terms};
-//! use masuvelior::{write, Archive, Day, Ended, Expr, Validity};
+//! use masuvelior::{write, Archive, Ended, Expr};
 //!
 //! // Eight entries: three under term 0, none under term 1, five under term 2.
 //! let bytes = write(&[3, 1, 0, 3, 2, 1, 3, 0], &[3, 0, 5], 4)?;
@@ -28,12 +28,6 @@
 //! assert_eq!(ended, Ended::Done { openings: 3 });
 //!
 //! assert_eq!(archive.list(Entries(3..5))?, [(2, 1, 4), (3, 1, 3)]); // places count from entry 0
-//!
-//! // As it stood on a day: document 3 is in force to the end of 2026, and the others are always.
-//! let mut days = [Validity::ALWAYS; 4];
-//! days[3] = Validity::new(Day::FIRST, Day::of(2026, 12, 31)?)?;
-//! let (documents, _) = archive.dated(Terms(0..=2), 2, 9, &days, Day::of(2027, 1, 1)?)?;
-//! assert_eq!(documents, [(0, 2, 2), (1, 2, 1)]);
 //!
 //! // Rare terms weigh more: term 0 is in three of the four documents, term 2 in each of them, so their weights are 1 and 0.
 //! let (documents, ended) = archive.weighted(&[0, 2], 4, 3)?;
@@ -52,8 +46,6 @@
 mod archive;
 mod argument;
 mod boolean;
-mod dated;
-mod day;
 mod expr;
 mod found;
 pub mod marks;
@@ -68,7 +60,6 @@ mod write;
 
 pub use archive::Archive;
 pub use argument::Argument;
-pub use day::{Day, Validity};
 pub use expr::Expr;
 pub use found::{Counted, Matched, Scored};
 pub use per_mille::per_mille;

@@ -3,8 +3,7 @@ use crate::argument::Argument;
 use std::error::Error;
 use std::fmt;
 
-/// A refusal: the lowest number of the table that applies, but 18 comes before 11 and 12, 19 before 11, and 20 after 11 and before 12. Nothing was
-/// written.
+/// A refusal: the lowest number of the table that applies, but 18 comes before 11 and 12, and 19 before 11. Nothing was written.
 ///
 /// ```
 /// use masuvelior::{Archive, Refusal};
@@ -55,13 +54,11 @@ pub enum Refusal {
     Question,
     /// 19, a set of documents: it is too long or not strictly ascending.
     Set,
-    /// 20, days: not just two for each document, one that is not in the calendar within its limits, or a first day after the last.
-    Days,
 }
 
 impl Refusal {
     /// Every refusal, by number; the argument of 11 has no name there.
-    pub const ALL: [Refusal; 20] = [
+    pub const ALL: [Refusal; 19] = [
         Refusal::TooShort,
         Refusal::Edition,
         Refusal::Limits,
@@ -81,10 +78,9 @@ impl Refusal {
         Refusal::WriterTarget,
         Refusal::Question,
         Refusal::Set,
-        Refusal::Days,
     ];
 
-    /// Its number in the table, 1 to 20.
+    /// Its number in the table, 1 to 19.
     pub fn number(self) -> u32 {
         self.row().0
     }
@@ -122,7 +118,6 @@ impl Refusal {
             Refusal::WriterTarget => (17, "the target is shorter than the archive"),
             Refusal::Question => (18, "a question that is empty, too long, too deep or without a reading"),
             Refusal::Set => (19, "a set that is too long or not strictly ascending"),
-            Refusal::Days => (20, "a list without just two days a document, a day outside the limits or not in the calendar, or a first day after the last"),
         }
     }
 

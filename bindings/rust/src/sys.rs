@@ -27,7 +27,6 @@ declare! {
     masuvelior_write(entries: *const u32, n: usize, lengths: *const u32, terms: usize, documents: u32, target: *mut u8, target_length: usize, length: *mut usize);
     masuvelior_read(archive: *const u8, archive_length: usize, entries: *mut u32, entries_length: usize, lengths: *mut u32, lengths_length: usize, n: *mut u32, documents: *mut u32, terms: *mut u32);
     masuvelior_per_mille(count: u32, size: u32, rate: *mut u32);
-    masuvelior_check_day(day: u32);
 }
 
 // Questions that check the archive first.
@@ -46,8 +45,6 @@ declare! {
     masuvelior_rarest_first(archive: *const u8, archive_length: usize, chosen: *const u32, chosen_length: usize, order: *mut [u32; MASUVELIOR_MAX_CHOSEN], size: *mut u32);
     masuvelior_greedy_entries(archive: *const u8, archive_length: usize, a: u32, b: u32, k: u32, allowance: u32, answers: *mut u32, answers_length: usize, work: *mut u32, work_length: usize, listed: *mut u32, spent: *mut u32, number: *mut u32);
     masuvelior_greedy_terms(archive: *const u8, archive_length: usize, first: u32, last: u32, k: u32, allowance: u32, answers: *mut u32, answers_length: usize, work: *mut u32, work_length: usize, listed: *mut u32, spent: *mut u32, number: *mut u32);
-    masuvelior_dated_entries(archive: *const u8, archive_length: usize, a: u32, b: u32, k: u32, allowance: u32, days: *const u32, days_length: usize, day: u32, answers: *mut u32, answers_length: usize, work: *mut u32, work_length: usize, listed: *mut u32, spent: *mut u32, number: *mut u32);
-    masuvelior_dated_terms(archive: *const u8, archive_length: usize, first: u32, last: u32, k: u32, allowance: u32, days: *const u32, days_length: usize, day: u32, answers: *mut u32, answers_length: usize, work: *mut u32, work_length: usize, listed: *mut u32, spent: *mut u32, number: *mut u32);
     masuvelior_probing_entries(archive: *const u8, archive_length: usize, a: u32, b: u32, k: u32, answers: *mut u32, answers_length: usize, work: *mut u32, work_length: usize, listed: *mut u32);
     masuvelior_probing_terms(archive: *const u8, archive_length: usize, first: u32, last: u32, k: u32, answers: *mut u32, answers_length: usize, work: *mut u32, work_length: usize, listed: *mut u32);
     masuvelior_weighted(archive: *const u8, archive_length: usize, chosen: *const u32, chosen_length: usize, k: u32, allowance: u32, answers: *mut u32, answers_length: usize, work: *mut u32, work_length: usize, listed: *mut u32, spent: *mut u32, number: *mut u32);
@@ -70,8 +67,6 @@ declare! {
     masuvelior_opened_rarest_first(archive: *const u8, archive_length: usize, chosen: *const u32, chosen_length: usize, order: *mut [u32; MASUVELIOR_MAX_CHOSEN], size: *mut u32);
     masuvelior_opened_greedy_entries(archive: *const u8, archive_length: usize, a: u32, b: u32, k: u32, allowance: u32, answers: *mut u32, answers_length: usize, work: *mut u32, work_length: usize, listed: *mut u32, spent: *mut u32, number: *mut u32);
     masuvelior_opened_greedy_terms(archive: *const u8, archive_length: usize, first: u32, last: u32, k: u32, allowance: u32, answers: *mut u32, answers_length: usize, work: *mut u32, work_length: usize, listed: *mut u32, spent: *mut u32, number: *mut u32);
-    masuvelior_opened_dated_entries(archive: *const u8, archive_length: usize, a: u32, b: u32, k: u32, allowance: u32, days: *const u32, days_length: usize, day: u32, answers: *mut u32, answers_length: usize, work: *mut u32, work_length: usize, listed: *mut u32, spent: *mut u32, number: *mut u32);
-    masuvelior_opened_dated_terms(archive: *const u8, archive_length: usize, first: u32, last: u32, k: u32, allowance: u32, days: *const u32, days_length: usize, day: u32, answers: *mut u32, answers_length: usize, work: *mut u32, work_length: usize, listed: *mut u32, spent: *mut u32, number: *mut u32);
     masuvelior_opened_probing_entries(archive: *const u8, archive_length: usize, a: u32, b: u32, k: u32, answers: *mut u32, answers_length: usize, work: *mut u32, work_length: usize, listed: *mut u32);
     masuvelior_opened_probing_terms(archive: *const u8, archive_length: usize, first: u32, last: u32, k: u32, answers: *mut u32, answers_length: usize, work: *mut u32, work_length: usize, listed: *mut u32);
     masuvelior_opened_weighted(archive: *const u8, archive_length: usize, chosen: *const u32, chosen_length: usize, k: u32, allowance: u32, answers: *mut u32, answers_length: usize, work: *mut u32, work_length: usize, listed: *mut u32, spent: *mut u32, number: *mut u32);

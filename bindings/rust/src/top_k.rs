@@ -5,7 +5,7 @@ use crate::range::Over;
 use crate::refusal::{outcome, Refusal};
 use crate::sys;
 
-/// How a search with an allowance ended, greedy, dated or weighted.
+/// How a search with an allowance ended, greedy or weighted.
 #[derive(Clone, Copy, Debug, PartialEq, Eq, Hash)]
 pub enum Ended {
     /// It is done: the answer is whole, and took so many openings.
@@ -171,12 +171,12 @@ impl Archive<'_> {
         Ok(&answers[..listed as usize])
     }
 
-    /// How many documents an answer of top-k, dated and weighted too, may have, and so how many elements must be lent for it: k, or N where that is less.
+    /// How many documents an answer of top-k, weighted too, may have, and so how many elements must be lent for it: k, or N where that is less.
     pub fn answer_length(&self, k: u32) -> usize {
         k.min(self.documents()) as usize
     }
 
-    /// How many numbers must be lent to top-k, dated and weighted too, for its work: 4 × N.
+    /// How many numbers must be lent to top-k, weighted too, for its work: 4 × N.
     pub fn work_length(&self) -> usize {
         4 * self.documents() as usize
     }

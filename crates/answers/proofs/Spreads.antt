@@ -11,7 +11,7 @@ use Rattle.model.specs.Lists.{Every, overwrite}
 use Rattle.model.specs.Queries.{Pair, pair, flat, pair_at, pairs_in, flat_placed}
 use Rattle.model.specs.Probing.{nobody}
 use Rattle.model.proofs.Pairs.{length-flat, length_pairs, get_d_pairs}
-use Rattle.model.proofs.Sorting.{every-at}
+use Rattle.model.proofs.Sorting.{every_at}
 use Rattle.model.proofs.FirstPlaces.{length-flat_placed}
 use Rattle.answers.specs.Spread.{Spread}
 
@@ -86,7 +86,7 @@ module _ (place : ℕ → ℕ) (n : ℕ) (before : List ℕ) (room : 3 * n ≤ l
   pub next_pair : (t : Pair → Bool) → Every t (pairs_in before n) → t (pair_at now (i - 1)) ≡ true
   next_pair t every =
       ap t (spread_pair place n before room (i - 1) (omega arith) now here ∙ sym (get_d_pairs before n (i - 1) (omega arith)))
-      ∙ every-at t (pairs_in before n) (i - 1) nobody every (omega (arith, length_pairs before n))
+      ∙ every_at t (pairs_in before n) (i - 1) nobody every (omega (arith, length_pairs before n))
 
   pub next_step : {after : List ℕ} (x : ℕ) → x ≡ place (pair_at now (i - 1)).document
       → after ≡ sets now (3 * (i - 1)) ((pair_at now (i - 1)).document ∷ (pair_at now (i - 1)).count ∷ x ∷ []) → Spread place n (i - 1) before after

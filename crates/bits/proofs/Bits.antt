@@ -69,23 +69,23 @@ count_mono v row i k h =
     let r = rank_mono v (bits_of k row) i k h in
     rw (rank-bits_of v k row i h, rank-bits_of v k row k (le_refl k)) at r
 
-bit-kinds : (x : ℕ) → x < 2 → (bit (eqb 1 x) ≡ x) × (bit (eqb 0 x) + x ≡ 1)
-bit-kinds zero h = omega arith
-bit-kinds (suc zero) h = omega arith
-bit-kinds (suc (suc x)) h = absurd (not-suc-le-zero (le_of_suc-le-suc (le_of_suc-le-suc h)))
+bit_kinds : (x : ℕ) → x < 2 → (bit (eqb 1 x) ≡ x) × (bit (eqb 0 x) + x ≡ 1)
+bit_kinds zero h = omega arith
+bit_kinds (suc zero) h = omega arith
+bit_kinds (suc (suc x)) h = absurd (not-suc-le-zero (le_of_suc-le-suc (le_of_suc-le-suc h)))
 
 -- one place more adds the bit
 pub ones-suc : (row : List ℕ) (i : ℕ) → count_below 1 row (suc i) ≡ count_below 1 row i + bit_at row i
-ones-suc row i = omega (arith, count-suc 1 row i, bit-kinds (bit_at row i) (omega arith))
+ones-suc row i = omega (arith, count-suc 1 row i, bit_kinds (bit_at row i) (omega arith))
 
 -- the zeros and the ones are all the places
-pub count-both : (row : List ℕ) (i : ℕ) → count_below 0 row i + count_below 1 row i ≡ i
-count-both row zero = omega (arith, count-zero 0 row, count-zero 1 row)
-count-both row (suc i) =
-    omega (arith, count-suc 0 row i, count-suc 1 row i, bit-kinds (bit_at row i) (omega arith), count-both row i)
+pub count_both : (row : List ℕ) (i : ℕ) → count_below 0 row i + count_below 1 row i ≡ i
+count_both row zero = omega (arith, count-zero 0 row, count-zero 1 row)
+count_both row (suc i) =
+    omega (arith, count-suc 0 row i, count-suc 1 row i, bit_kinds (bit_at row i) (omega arith), count_both row i)
 
 pub count_kind : (v : ℕ) (row : List ℕ) (i : ℕ) → v < 2 → of_kind v i (count_below 1 row i) ≡ count_below v row i
-count_kind zero row i h = omega (arith, count-both row i)
+count_kind zero row i h = omega (arith, count_both row i)
 count_kind (suc zero) row i h = refl
 count_kind (suc (suc v)) row i h = absurd (not-suc-le-zero (le_of_suc-le-suc (le_of_suc-le-suc h)))
 
@@ -106,12 +106,12 @@ ones_bit x = go (x % 2) (omega arith)
     go (suc (suc b)) h = absurd (not-suc-le-zero (le_of_suc-le-suc (le_of_suc-le-suc h)))
 
 -- the ones below bit j of byte k
-pub ones-byte : (row : List ℕ) (k j : ℕ) → j ≤ 8 → count_below 1 row (8 * k + j) ≡ count_below 1 row (8 * k) + ones (get_or row k 0 % 2 ^ j)
-ones-byte row k zero h =
+pub ones_byte : (row : List ℕ) (k j : ℕ) → j ≤ 8 → count_below 1 row (8 * k + j) ≡ count_below 1 row (8 * k) + ones (get_or row k 0 % 2 ^ j)
+ones_byte row k zero h =
     let e : get_or row k 0 % 2 ^ 0 ≡ 0 = omega arith in
     let p : 8 * k + 0 ≡ 8 * k = omega arith in
     rw (e, p) (unfold ones in omega arith)
-ones-byte row k (suc j) h =
+ones_byte row k (suc j) h =
     let b = get_or row k 0 in
     let p : 8 * k + suc j ≡ suc (8 * k + j) = omega arith in
     let q : (8 * k + j) / 8 ≡ k = omega arith in
@@ -122,7 +122,7 @@ ones-byte row k (suc j) h =
       arith,
       ap (count_below 1 row) p,
       ones-suc row (8 * k + j),
-      ones-byte row k j (omega arith),
+      ones_byte row k j (omega arith),
       ap ones t,
       ones_cat j (b / 2 ^ j % 2) (b % 2 ^ j) (native.Mathlib.Nat.mod-lt b (pow_pos j)),
       ones_bit (b / 2 ^ j),
@@ -133,7 +133,7 @@ pub ones_next : (row : List ℕ) (k : ℕ) → get_or row k 0 < 256 → count_be
 ones_next row k b =
     let p : 8 * k + 8 ≡ 8 * (k + 1) = omega arith in
     let q : get_or row k 0 % 2 ^ 8 ≡ get_or row k 0 = omega arith in
-    rw (p, q) at (ones-byte row k 8 (lit≤ tt))
+    rw (p, q) at (ones_byte row k 8 (lit≤ tt))
 
 module _ (row : List ℕ) (bytes : (i : ℕ) → get_or row i 0 < 256) where
   -- the ones below bit j of the m bytes from byte k on
@@ -160,7 +160,7 @@ module _ (row : List ℕ) (bytes : (i : ℕ) → get_or row i 0 < 256) where
           let low : whole % 2 ^ 8 ≡ b = omega (arith, bytes k) in
           let s : 8 - j + j ≡ 8 = omega arith in
           let e : whole % 2 ^ j ≡ b % 2 ^ j = sym (rw (s, low) at (mod-mod-pow whole (8 - j) j)) in
-          rw e (ones-byte row k j l)
+          rw e (ones_byte row k j l)
       go more (inr l) =
           let i = j - 8 in
           let p : 8 * (k + 1) + i ≡ 8 * k + j = omega arith in
@@ -214,7 +214,7 @@ kind_other (suc v) i n h = refl
 -- where the ones grow by x over w places, the bits of a kind grow by those of w places with x ones
 pub kind_add : (v : ℕ) (row : List ℕ) (a e w x : ℕ) → v < 2 → a + w ≡ e → x ≤ w → count_below 1 row e ≡ count_below 1 row a + x
     → count_below v row e ≡ count_below v row a + of_kind v w x
-kind_add zero row a e w x l p h q = omega (arith, count-both row a, count-both row e)
+kind_add zero row a e w x l p h q = omega (arith, count_both row a, count_both row e)
 kind_add (suc zero) row a e w x l p h q = q
 kind_add (suc (suc v)) row a e w x l p h q = absurd (not-suc-le-zero (le_of_suc-le-suc (le_of_suc-le-suc l)))
 

@@ -30,8 +30,8 @@ eight P p0 p1 p2 p3 p4 p5 p6 p7 (suc (suc (suc (suc (suc (suc (suc (suc r)))))))
 
 module _ (bits : List ℕ) (small : (i : ℕ) → get_or bits i 0 < 2) (k : ℕ) where
   -- bit r of byte k
-  byte-bit : (r : ℕ) → r < 8 → byte_of bits k / 2 ^ r % 2 ≡ get_or bits (8 * k + r) 0
-  byte-bit =
+  byte_bit : (r : ℕ) → r < 8 → byte_of bits k / 2 ^ r % 2 ≡ get_or bits (8 * k + r) 0
+  byte_bit =
       let l0 = small (8 * k + 0) in
       let l1 = small (8 * k + 1) in
       let l2 = small (8 * k + 2) in
@@ -59,7 +59,7 @@ module _ (bits : List ℕ) (small : (i : ℕ) → get_or bits i 0 < 2) where
   bit_at-pack i l =
       let e : 8 * (i / 8) + i % 8 ≡ i = omega arith in
       ap (λ (b : ℕ). b / 2 ^ (i % 8) % 2) (get_d_pack bits (i / 8) (omega arith))
-      ∙ byte-bit bits small (i / 8) (i % 8) (omega arith)
+      ∙ byte_bit bits small (i / 8) (i % 8) (omega arith)
       ∙ ap (λ (j : ℕ). get_or bits j 0) e
 
   -- the bits of packed bits are the bits
@@ -70,9 +70,9 @@ module _ (bits : List ℕ) (small : (i : ℕ) → get_or bits i 0 < 2) where
       let m : i < length bits = rw (← length-bits_of (length bits) (pack bits)) l in
       get_d_bits_of (length bits) (pack bits) i m ∙ bit_at-pack i (omega arith))
 
-  pub unused-pack : unused_clear (length bits) (pack bits) ≡ true
+  pub unused_pack : unused_clear (length bits) (pack bits) ≡ true
   unfolding unused_clear
-  unused-pack =
+  unused_pack =
       all-up_from (λ i. eqb (bit_at (pack bits) i) 0) (length bits) (8 * row_bytes (length bits) - length bits)
       (λ i a b. eq-eqb (bit_at (pack bits) i) 0 (bit_at-pack i (omega arith) ∙ get_or-eq_default bits 0 a))
 
@@ -104,8 +104,8 @@ module _ (n : ℕ) (row : List ℕ) (small : (k : ℕ) → get_or row k 0 < 256)
           get_or-eq_default (bits_of n row) 0 {n = i} (rw (length-bits_of n row) (omega arith))
           ∙ sym (eqb-true (bit_at row i) 0 (all-up_from-at (λ j. eqb (bit_at row j) 0) n (8 * row_bytes n - n) clear i (omega arith) (omega arith)))
 
-  byte-of : (k : ℕ) → k < row_bytes n → byte_of (bits_of n row) k ≡ get_or row k 0
-  byte-of k l =
+  byte_of_lem : (k : ℕ) → k < row_bytes n → byte_of (bits_of n row) k ≡ get_or row k 0
+  byte_of_lem k l =
       (λ i.
       at 0 (omega arith) i * 2 ^ 0 + (at 1 (omega arith) i * 2 ^ 1 + (at 2 (omega arith) i * 2 ^ 2 + (at 3 (omega arith) i * 2 ^ 3
       + (at 4 (omega arith) i * 2 ^ 4 + (at 5 (omega arith) i * 2 ^ 5 + (at 6 (omega arith) i * 2 ^ 6 + (at 7 (omega arith) i * 2 ^ 7 + 0))))))))
@@ -124,4 +124,4 @@ module _ (n : ℕ) (row : List ℕ) (small : (k : ℕ) → get_or row k 0 < 256)
       ext_get_or 0 (pack (bits_of n row)) row (e ∙ sym size)
       (λ k l.
       let m : k < row_bytes n = omega arith in
-      get_d_pack (bits_of n row) k (rw (length-bits_of n row) m) ∙ byte-of k m)
+      get_d_pack (bits_of n row) k (rw (length-bits_of n row) m) ∙ byte_of_lem k m)

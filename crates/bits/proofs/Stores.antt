@@ -53,8 +53,8 @@ module _ (b r : ℕ) (clear : b / 2 ^ r % 2 ≡ 0) where
       let up : (x : ℕ) → x / 2 ^ j ≡ x / 2 ^ r / 2 / 2 ^ m = λ x. sym (shr-shr (x / 2 ^ r) 1 m ∙ rw p at (shr-shr x r (1 + m))) in
       rw (up (b + 2 ^ r), up b, add-div_right b (pow_pos r), half)
 
-  byte-other : (j : ℕ) → j ≢ r → (b + 2 ^ r) / 2 ^ j % 2 ≡ b / 2 ^ j % 2
-  byte-other j ne = go (le_or_lt j r)
+  byte_other : (j : ℕ) → j ≢ r → (b + 2 ^ r) / 2 ^ j % 2 ≡ b / 2 ^ j % 2
+  byte_other j ne = go (le_or_lt j r)
     where
       go : (j ≤ r) ⊎ (r < j) → (b + 2 ^ r) / 2 ^ j % 2 ≡ b / 2 ^ j % 2
       go (inl h) = byte_lower j (r - j - 1) (omega arith)
@@ -68,7 +68,7 @@ stored_same b r (suc (suc c)) clear l = absurd (omega arith)
 
 stored_other : (b r c : ℕ) → b / 2 ^ r % 2 ≡ 0 → c < 2 → (j : ℕ) → j ≢ r → (b + c * 2 ^ r) / 2 ^ j % 2 ≡ b / 2 ^ j % 2
 stored_other b r zero clear l j ne = rw (zero-mul (2 ^ r), add-zero b)
-stored_other b r (suc zero) clear l j ne = rw (one-mul (2 ^ r)) (byte-other b r clear j ne)
+stored_other b r (suc zero) clear l j ne = rw (one-mul (2 ^ r)) (byte_other b r clear j ne)
 stored_other b r (suc (suc c)) clear l j ne = absurd (omega arith)
 
 pub stored_fits : (b r c : ℕ) → b / 2 ^ r % 2 ≡ 0 → c < 2 → b < 256 → r < 8 → b + c * 2 ^ r < 256
@@ -106,10 +106,10 @@ unused_none n row e =
     let z : 8 * row_bytes n - n ≡ 0 = omega arith in
     rw z
 
-pub unused-byte : (n : ℕ) (row : List ℕ) → (n % 8 ≡ 0 → ⊥) → get_or row (n / 8) 0 < 256
+pub unused_byte : (n : ℕ) (row : List ℕ) → (n % 8 ≡ 0 → ⊥) → get_or row (n / 8) 0 < 256
     → unused_clear n row ≡ eqb (get_or row (n / 8) 0 / 2 ^ (n % 8)) 0
 unfolding unused_clear
-unused-byte n row ne h = go (eqb x 0) refl
+unused_byte n row ne h = go (eqb x 0) refl
   where
     x : ℕ
     x = get_or row (n / 8) 0 / 2 ^ (n % 8)

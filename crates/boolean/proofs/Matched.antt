@@ -89,12 +89,12 @@ module _ (masks : List ℕ) (e : Expression) (h : ℕ) where
     pub stored : answers ≡ sets before 0 (keep in? (below first))
 
   module _ (N : ℕ) (before : List ℕ) where
-    pub coming-first : Coming N before 0 0 0 before
-    coming-first = record { inside = omega arith; aligned = λ l. omega arith; how_many = refl; stored = refl }
+    pub coming_first : Coming N before 0 0 0 before
+    coming_first = record { inside = omega arith; aligned = λ l. omega arith; how_many = refl; stored = refl }
 
     module _ {found block first : ℕ} {answers : List ℕ} (o : Coming N before found block first answers) where
-      pub coming-length : length answers ≡ length before
-      coming-length = ap length o.stored ∙ length-sets before 0 (keep in? (below first))
+      pub coming_length : length answers ≡ length before
+      coming_length = ap length o.stored ∙ length-sets before 0 (keep in? (below first))
 
       pub coming_room : found ≤ first
       coming_room = omega (arith, o.how_many, length-keep in? (below first), tally_le_length in? (below first), length-up_from 0 first)
@@ -118,7 +118,7 @@ module _ (masks : List ℕ) (e : Expression) (h : ℕ) where
                 ∙ sym (sets_append before 0 (keep in? (below first)) (members (set block) first n)) ∙ ap (sets before 0) (sym all);
           }
 
-      pub coming-last : N ≤ first → (found ≡ length (matched masks (some e) h N)) × (answers ≡ sets before 0 (matched masks (some e) h N))
-      coming-last l =
+      pub coming_last : N ≤ first → (found ≡ length (matched masks (some e) h N)) × (answers ≡ sets before 0 (matched masks (some e) h N))
+      coming_last l =
           let end : first ≡ N = omega (arith, o.inside) in
           (o.how_many ∙ ap (λ (n : ℕ). length (keep in? (below n))) end, o.stored ∙ ap (λ (n : ℕ). sets before 0 (keep in? (below n))) end)

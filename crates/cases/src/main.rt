@@ -3,7 +3,6 @@
 mod archives;
 mod booleans;
 mod damaged;
-mod days;
 mod names;
 mod numbers;
 mod questions;
@@ -26,8 +25,7 @@ struct State {
 }
 
 // Questions of as many numbers as the line has, about the whole archive, which is behind 16 bytes.
-fn ask_whole(q: Question, numbers: &[u32], size: u32, bytes: &[u8]) {
-    let kind = q.kind;
+fn ask_whole(kind: u32, numbers: &[u32], size: u32, bytes: &[u8]) {
     let from = 16;
     let to = 16 + size as usize;
     if bytes.len() < to {
@@ -35,7 +33,6 @@ fn ask_whole(q: Question, numbers: &[u32], size: u32, bytes: &[u8]) {
     }
     match kind {
         22 => booleans::ask(numbers, &bytes[from..to]),
-        25 | 26 => days::ask(q, numbers, &bytes[from..to]),
         _ => sets::ask(numbers, &bytes[from..to]),
     }
 }
@@ -47,8 +44,8 @@ fn answer(q: Question, numbers: &[u32], size: u32, bytes: &mut [u8]) -> u32 {
         0 => archives::write(numbers, bytes),
         1 => archives::put_bytes(numbers, bytes),
         2 => archives::cut(q.a),
-        22 | 23 | 25 | 26 => {
-            ask_whole(q, numbers, size, bytes);
+        22 | 23 => {
+            ask_whole(kind, numbers, size, bytes);
             size
         }
         _ => {

@@ -34,7 +34,7 @@ fn seek_byte(s: Seek, n: u8, b: u8) -> Seek {
 
 pub fn kind_of(line: &[u8]) -> u32 {
     let names =
-        b"write archive cut open report access rank quantile quantile_terms per_mille select range_of_terms read list list_terms conjunction greedy_entries greedy_terms probing_entries probing_terms bytes weighted boolean rank_set rarest_first dated_entries dated_terms ";
+        b"write archive cut open report access rank quantile quantile_terms per_mille select range_of_terms read list list_terms conjunction greedy_entries greedy_terms probing_entries probing_terms bytes weighted boolean rank_set rarest_first ";
     let mut s = Seek {
         number: 0,
         at: 0,

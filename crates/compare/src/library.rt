@@ -5,7 +5,7 @@ use plain::archive::length_of;
 use plain::outcome::Sizes;
 use slices::{at, count_at, plus, put};
 use trials::random::{below, draw, once_in};
-use trials::{booleans, dated_searches, lists, numbers, orders, places, rates, searches, sets};
+use trials::{booleans, lists, numbers, orders, places, rates, searches, sets};
 
 fn fill_entries(how: u32, n: u32, documents: u32, seed: u32, entries: &mut [u32]) {
     let mut i = 0;
@@ -183,23 +183,6 @@ fn ask_orders(
     }
 }
 
-// So many dated searches, over entries or over terms.
-fn ask_dated(
-    times: u32,
-    archive: &[u8],
-    entries: &[u32],
-    lengths: &[u32],
-    l: Sizes,
-    seed: u32,
-    made: &mut [u32; 64],
-) {
-    let mut i = 0;
-    while i < times {
-        dated_searches::ask_drawn(archive, entries, lengths, l, draw(seed, i), made);
-        i += 1;
-    }
-}
-
 // The check on opening, the reader and the questions, of the archive in the front of a target. Not large libraries are walked too, and asked for every order
 // of a few terms.
 fn ask_written(
@@ -232,15 +215,6 @@ fn ask_written(
     );
     ask_sets(questions / 4, archive, entries, l, draw(seed, 6), made);
     ask_orders(questions / 4, archive, lengths, l, draw(seed, 7), made);
-    ask_dated(
-        questions / 20,
-        archive,
-        entries,
-        lengths,
-        l,
-        draw(seed, 9),
-        made,
-    );
     if l.n < 1000 {
         walk(archive, entries, l, seed, made);
         orders::ask_orders(archive, entries, lengths, l, draw(seed, 8), made);

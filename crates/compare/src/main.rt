@@ -1,20 +1,18 @@
-// Many random libraries, every pattern of terms and every short sequence of words and marks in a few small ones, every day in one, and every rate of a small
-// size, through the code and beside a plain count over the list.
+// Many random libraries, every pattern of terms and every short sequence of words and marks in a few small ones, and every rate of a small size, through
+// the code and beside a plain count over the list.
 mod archives;
-mod days;
 mod library;
 mod patterns;
 mod sequences;
 mod shapes;
 
-use days::days;
 use library::library;
 use patterns::patterns;
 use sequences::sequences;
 use shapes::shape_of;
+use trials::differences::totals;
 use trials::random::draw;
 use trials::rates::ask_rates;
-use trials::totals::totals;
 
 fn libraries(made: &mut [u32; 64]) {
     let mut i: u32 = 0;
@@ -30,7 +28,6 @@ fn main() {
     libraries(&mut made);
     patterns(&mut made);
     sequences(&mut made);
-    days(&mut made);
     ask_rates(&mut made);
     totals(&made);
 }

@@ -1,8 +1,8 @@
 -- The ground of the greedy search, and what it is to find. Document 01, "The questions", the shortlist.
-use Rattle.std.specs.Prelude.{ℕ, ◌-◌, List, Bool}
+use Rattle.std.specs.Prelude.{ℕ, ◌-◌, List}
 use Rattle.model.specs.Queries.{flat}
 use Rattle.model.specs.TopK.{Node, node, count_in, Ended, Found, found_of}
-use Rattle.model.specs.Search.{answer_of, every_document, only_shown, occupied, search_moves}
+use Rattle.model.specs.Search.{answer_of, occupied, search_moves}
 use Rattle.wavelet.specs.declared.Span.{Span}
 use Rattle.wavelet.specs.Levels.{entries_in}
 use Rattle.wavelet.specs.Spans.{span_of}
@@ -28,9 +28,4 @@ ground_of bytes s = record {
 
 -- the pairs and the answer that are read off the moves. They are those of `greedy_result` (`model/proofs/Greedy/Theorem`)
 abbrev pub found_in : List ℕ → Search → ℕ → ℕ → Found Ended
-found_in bytes s k allowance = found_of flat s.documents (answer_of (search_moves every_document s.levels.height (range_of bytes s) k allowance))
-
--- the same of a search that shows some documents: without those that it does not show
-abbrev pub shown_in : List ℕ → Search → (ℕ → Bool) → ℕ → ℕ → Found Ended
-shown_in bytes s shown k allowance =
-    found_of flat s.documents (only_shown shown (answer_of (search_moves shown s.levels.height (range_of bytes s) k allowance)))
+found_in bytes s k allowance = found_of flat s.documents (answer_of (search_moves s.levels.height (range_of bytes s) k allowance))

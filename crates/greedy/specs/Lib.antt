@@ -1,4 +1,3 @@
 -- What the contracts of greedy cite.
 pub mod Records
 pub mod Grounds
-pub mod Shown

@@ -3,4 +3,4 @@ mod node;
 mod run;
 pub mod step;
 
-pub use run::{greedy, greedy_shown};
+pub use run::greedy;

@@ -56,9 +56,9 @@ module _ (bytes : List ℕ) (t : Levels) (j q : ℕ) (s : Span) (table : List �
             (noted_from (level_of bytes t) (t.height - suc j) (suc j) (2 * q) (halves_of (level_of bytes t j) s).zero (set table (number_of j q) s.hi))
 
     -- as the code goes on from table to table
-    pub noted-both : (here zeros : List ℕ) → here ≡ set table (number_of j q) s.hi → zeros ≡ noted_under bytes t (j + 1) (2 * q) two.zero here
+    pub noted_both : (here zeros : List ℕ) → here ≡ set table (number_of j q) s.hi → zeros ≡ noted_under bytes t (j + 1) (2 * q) two.zero here
         → noted_under bytes t (j + 1) (2 * q + 1) two.one zeros ≡ noted_under bytes t j q s table
-    noted-both here zeros eh ez =
+    noted_both here zeros eh ez =
         ap (noted_under bytes t (j + 1) (2 * q + 1) two.one) (ez ∙ ap (noted_under bytes t (j + 1) (2 * q) two.zero) eh) ∙ noted-halves
 
 -- ---- all nodes below one

@@ -13,7 +13,7 @@ use Rattle.model.specs.Queries.{Pair, pair_of, present, listing, pairs_in, first
 use Rattle.model.specs.TopK.{with_places}
 use Rattle.model.proofs.Lists.{within_part}
 use Rattle.model.proofs.FirstPlaces.{flat_placed_same}
-use Rattle.model.proofs.Sorting.{every-cons, every_imply, every-keep}
+use Rattle.model.proofs.Sorting.{every_cons, every_imply, every_keep}
 use Rattle.answers.specs.Spread.{Counted}
 use Rattle.answers.specs.Written.{Lists, ListsPlaced}
 use Rattle.answers.proofs.Occurrences.{occurs_lt}
@@ -44,13 +44,13 @@ module _ (xs : List ℕ) where
 
   all-exact : (ds : List ℕ) → Every exact (map (pair_of xs) ds)
   all-exact [] = refl
-  all-exact (d ∷ ds) = every-cons exact (pair_of xs d) (map (pair_of xs) ds) (eq-eqb (occurrences d xs) (occurrences d xs) refl) (all-exact ds)
+  all-exact (d ∷ ds) = every_cons exact (pair_of xs d) (map (pair_of xs) ds) (eq-eqb (occurrences d xs) (occurrences d xs) refl) (all-exact ds)
 
   pub listing-counted : (N : ℕ) → Counted xs (listing N xs)
   listing-counted N = (
-    every-keep exact (λ p. ltb 0 (occurrences p.document xs)) present
+    every_keep exact (λ p. ltb 0 (occurrences p.document xs)) present
         (λ p here e. ap (ltb 0) (sym (eqb-true p.count (occurrences p.document xs) e)) ∙ here) (map (pair_of xs) (below N)) (all-exact (below N)),
-    every-keep exact exact present (λ p here e. e) (map (pair_of xs) (below N)) (all-exact (below N)),
+    every_keep exact exact present (λ p here e. e) (map (pair_of xs) (below N)) (all-exact (below N)),
   )
 
 -- ---- what a listing leaves, spread

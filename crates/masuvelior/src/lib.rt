@@ -3,7 +3,6 @@
 mod archives;
 mod boolean_questions;
 mod conjunctions;
-mod dated_searches;
 mod entries;
 mod orders;
 mod ranges;

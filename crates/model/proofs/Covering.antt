@@ -69,7 +69,7 @@ module _ (need : List Pair → ℕ) (none : need [] ≡ 0) (allowance : ℕ) (ps
 
 -- ---- what a search leaves
 
-pub figure-ended : (a : Answer) → figure (answered (ended_of a)) ≡ figure_of a
+figure-ended : (a : Answer) → figure (answered (ended_of a)) ≡ figure_of a
 figure-ended (done ps openings) = refl
 figure-ended (spent ps allowance) = refl
 

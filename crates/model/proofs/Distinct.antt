@@ -15,7 +15,7 @@ use Rattle.bits.proofs.Tally.{tally_same, tally_none, tally_le_length}
 use Rattle.model.specs.Lists.{keep, any, Sorted, Within}
 use Rattle.model.specs.Distinct.{distinct, EachOnce, Different}
 use Rattle.model.proofs.Lists.{keep_append, tally-keep, length-keep, within_keep}
-use Rattle.model.proofs.Sorting.{every_true, every-keep, sorted-keep, strict_determined}
+use Rattle.model.proofs.Sorting.{every_true, every_keep, sorted-keep, strict_determined}
 
 -- what stands beside x
 abbrev pub other : ℕ → ℕ → Bool
@@ -81,7 +81,7 @@ first-other x y xs o = rw (ne_eqb y x (other_ne x y o))
 distinct-order : (xs : List ℕ) → Sorted (earlier xs) (distinct xs)
 distinct-order [] = tt
 distinct-order (x ∷ xs) = (
-  every-keep (λ y. true) (earlier (x ∷ xs) x) (other x) ahead (distinct xs) (every_true (distinct xs)),
+  every_keep (λ y. true) (earlier (x ∷ xs) x) (other x) ahead (distinct xs) (every_true (distinct xs)),
   sorted-keep (earlier xs) (earlier (x ∷ xs)) (other x) after (distinct xs) (distinct-order xs),
 )
   where

@@ -17,7 +17,7 @@ use Rattle.model.specs.Lists.{keep, Every, Sorted}
 use Rattle.model.specs.Queries.{Pair}
 use Rattle.model.specs.TopK.{ahead, ahead_pair, ranking}
 use Rattle.model.proofs.Lists.{length-keep, tally-keep, tally-take_lt}
-use Rattle.model.proofs.Sorting.{every_head, every_tail, every-cons, every_take, sorted-take, same_length}
+use Rattle.model.proofs.Sorting.{every_head, every_tail, every_cons, every_take, sorted-take, same_length}
 use Rattle.model.proofs.Ranking.{ranking-sorted, ranking_same, pair-after, pair_antisymm}
 use Rattle.model.proofs.Greedy.Nodes.{up_from-once}
 
@@ -35,9 +35,9 @@ pair_is p q e =
     λ i. record { document = d i; count = c i }
 
 -- what holds of all holds of one among them
-every-among : (t : Pair → Bool) (p : Pair) (qs : List Pair) → Every t qs → 0 < tally (same_pair p) qs → t p ≡ true
-every-among t p [] e l = absurd (omega arith)
-every-among t p (q ∷ qs) e l = go (look (same_pair p q)) (λ k. every-among t p qs (every_tail t q qs e) k)
+every_among : (t : Pair → Bool) (p : Pair) (qs : List Pair) → Every t qs → 0 < tally (same_pair p) qs → t p ≡ true
+every_among t p [] e l = absurd (omega arith)
+every_among t p (q ∷ qs) e l = go (look (same_pair p q)) (λ k. every_among t p qs (every_tail t q qs e) k)
   where
     go : (same_pair p q ≡ true) ⊎ (same_pair p q ≡ false) → (0 < tally (same_pair p) qs → t p ≡ true) → t p ≡ true
     go (inl s) i = ap t (pair_is p q s) ∙ every_head t q qs e
@@ -48,7 +48,7 @@ front-ahead : (ps qs : List Pair) → Sorted ahead_pair (ps ++ qs) → (q : Pair
 front-ahead [] qs s q l = refl
 front-ahead (p ∷ ps) qs s q l =
     let e : Every (ahead_pair p) qs = omega (arith, tally-append (λ y. not (ahead_pair p y)) ps qs, s.0) in
-    every-cons (λ y. ahead_pair y q) p ps (every-among (ahead_pair p) q qs e l) (front-ahead ps qs s.1 q l)
+    every_cons (λ y. ahead_pair y q) p ps (every_among (ahead_pair p) q qs e l) (front-ahead ps qs s.1 q l)
 
 -- ---- strict order, where documents differ
 
@@ -64,7 +64,7 @@ ahead_strict p q a d = go (look (ahead p q))
 every_strict : (t u w : Pair → Bool) → ((p : Pair) → t p ≡ true → u p ≡ false → w p ≡ true) → (ps : List Pair) → Every t ps → tally u ps ≡ 0 → Every w ps
 every_strict t u w f [] a b = refl
 every_strict t u w f (p ∷ ps) a b =
-    every-cons w p ps (go (look (u p))) (every_strict t u w f ps (every_tail t p ps a) (omega arith))
+    every_cons w p ps (go (look (u p))) (every_strict t u w f ps (every_tail t p ps a) (omega arith))
   where
     go : (u p ≡ true) ⊎ (u p ≡ false) → w p ≡ true
     go (inl e) = absurd (omega (arith, ap bit e))
@@ -91,15 +91,15 @@ module _ (N k : ℕ) (count : ℕ → ℕ) (test : ℕ → Bool) where
   abbrev passing : List Pair
   passing = map (pair_by count) (keep test (below N))
 
-  tally-ranked : (t : Pair → Bool) → tally t (ranking passing) ≡ tally (λ d. test d && t (pair_by count d)) (below N)
-  tally-ranked t =
+  tally_ranked : (t : Pair → Bool) → tally t (ranking passing) ≡ tally (λ d. test d && t (pair_by count d)) (below N)
+  tally_ranked t =
       ranking_same passing t ∙ tally-map t (pair_by count) (keep test (below N)) ∙ tally-keep (λ d. t (pair_by count d)) test (below N)
 
   -- what holds of each document that passes holds of each pair listed
   listed-all : (t : Pair → Bool) → ((d : ℕ) → test d ≡ true → t (pair_by count d) ≡ true) → Every t full_by
   listed-all t h =
       every_take t k (ranking passing)
-      (tally-ranked (λ p. not (t p)) ∙ tally_none (λ d. test d && not (t (pair_by count d))) (λ d. go d (look (test d))) (below N))
+      (tally_ranked (λ p. not (t p)) ∙ tally_none (λ d. test d && not (t (pair_by count d))) (λ d. go d (look (test d))) (below N))
     where
       go : (d : ℕ) → (test d ≡ true) ⊎ (test d ≡ false) → (test d && not (t (pair_by count d))) ≡ false
       go d (inl e) = rw (e, h d e)
@@ -117,7 +117,7 @@ module _ (N k : ℕ) (count : ℕ → ℕ) (test : ℕ → Bool) where
       omega (
         arith,
         tally-take_le (λ p. eqb d p.document) k (ranking passing),
-        tally-ranked (λ p. eqb d p.document),
+        tally_ranked (λ p. eqb d p.document),
         tally_le (λ e. test e && eqb d e) (eqb d) (λ e h. (and_both (test e) (eqb d e) h).1) (below N),
         up_from-once d 0 N,
       )
@@ -157,7 +157,7 @@ module _ (N k : ℕ) (count : ℕ → ℕ) (test : ℕ → Bool) where
             arith,
             tally-take-drop same k (ranking passing),
             tally_le same here (λ p e. (and_both (eqb d p.document) (eqb (count d) p.count) e).0) full_by,
-            tally-ranked same,
+            tally_ranked same,
             tally-take_lt is (below N) d 0 (omega (arith, length-up_from 0 N)) at,
           )
 

@@ -20,8 +20,6 @@ pub mod Covering
 pub mod Probing
 pub mod Repeated
 pub mod Weighted
-pub mod Calendar
-pub mod Dated
 pub mod Papers
 pub mod Questions
 pub mod Halving

@@ -3,17 +3,16 @@ use Prim.Native.Nat.{ℕ, zero, suc, ◌+◌, ◌-◌, ◌≤◌, ◌<◌, zero-
 use native.Mathlib.Omega.{arith}
 use native.Mathlib.Nat.{le_of_suc-le-suc, not-suc-le-zero, zero-add}
 use native.Mathlib.Decide.{dec_le}
-use mathlib.Core.Path.{◌≡◌, refl, sym, ap, ◌∙◌, fun_ext}
-use mathlib.Core.Logic.{◌⊎◌, inl, inr}
+use mathlib.Core.Path.{◌≡◌, refl, sym, ap, ◌∙◌}
 use mathlib.Core.List.{List, [], ◌∷◌, ◌++◌, map, append_assoc}
 use mathlib.Core.Bool.{Bool, true, false, cond, ◌&&◌, ◌||◌}
 use lib.ListN.{length, get_or, take, drop, length-append, length-drop, take-append-drop}
 use lib.Seq.{length-take-le, take-append_seam, split_at, get_or-append_seam}
-use lib.Dec.{leb, ltb, eqb}
-use borrow.Author.Tests.{lt-ltb, le-ltb, le-leb, lt-leb, eqb-true, eqb-false, ne_eqb}
-use Rattle.bits.specs.Sequences.{bit, tally, up_from}
+use lib.Dec.{leb, ltb}
+use borrow.Author.Tests.{lt-ltb, le-ltb, le-leb, lt-leb}
+use Rattle.bits.specs.Sequences.{bit, tally}
 use Rattle.bits.specs.Bits.{concat}
-use Rattle.bits.proofs.Tests.{look, ltb_iff}
+use Rattle.bits.proofs.Tests.{ltb_iff}
 use Rattle.bits.proofs.Tally.{tally-take-add, tally-sum, tally_true}
 pub use Rattle.bits.proofs.Tally.{map-append}
 use Rattle.model.specs.Lists.{keep, any, part, Within}
@@ -56,15 +55,6 @@ module _ {A : Type 0} where
           → keep p (cond b (x ∷ keep q xs) (keep q xs)) ≡ cond (b && p x) (x ∷ keep (λ y. q y && p y) xs) (keep (λ y. q y && p y) xs)
       go true ih = ap (λ (r : List A). cond (p x) (x ∷ r) r) ih
       go false ih = ih
-
-  pub keep_swap : (p q : A → Bool) (xs : List A) → keep p (keep q xs) ≡ keep q (keep p xs)
-  keep_swap p q xs = keep-keep p q xs ∙ ap (λ (r : A → Bool). keep r xs) (fun_ext (λ x. and_swap (q x) (p x))) ∙ sym (keep-keep q p xs)
-    where
-      and_swap : (a b : Bool) → (a && b) ≡ (b && a)
-      and_swap true true = refl
-      and_swap true false = refl
-      and_swap false true = refl
-      and_swap false false = refl
 
   pub keep-map : {B : Type 0} (p : B → Bool) (f : A → B) (xs : List A) → keep p (map f xs) ≡ map f (keep (λ x. p (f x)) xs)
   keep-map {B} p f [] = refl
@@ -214,19 +204,3 @@ pub any_leb : (v : ℕ) (xs : List ℕ) → any (leb v) xs ≡ ltb (tally (λ x.
 any_leb v xs =
     any-tally (leb v) xs
     ∙ ltb_iff 0 (tally (leb v) xs) (tally (λ x. ltb x v) xs) (length xs) (λ l. omega (arith, tally-below_above v xs)) (λ l. omega (arith, tally-below_above v xs))
-
--- ---- counts of numbers in a run
-
--- one number among those from s upward
-tally_past : (d s n : ℕ) (b : Bool) → d < s → tally (λ e. eqb d e && b) (up_from s n) ≡ 0
-tally_past d s zero b l = refl
-tally_past d s (suc n) b l = rw (ne_eqb d s (omega arith), tally_past d (suc s) n b (omega arith))
-
-pub tally-only : (d s n : ℕ) (b : Bool) → s ≤ d → d < s + n → tally (λ e. eqb d e && b) (up_from s n) ≡ bit b
-tally-only d s zero b l h = absurd (omega arith)
-tally-only d s (suc n) b l h = go (look (eqb d s)) (tally-only d (suc s) n b)
-  where
-    go : (eqb d s ≡ true) ⊎ (eqb d s ≡ false) → (suc s ≤ d → d < suc s + n → tally (λ e. eqb d e && b) (up_from (suc s) n) ≡ bit b)
-        → bit (eqb d s && b) + tally (λ e. eqb d e && b) (up_from (suc s) n) ≡ bit b
-    go (inl e) i = rw e (omega (arith, tally_past d (suc s) n b (omega (arith, eqb-true d s e))))
-    go (inr e) i = let k = eqb-false d s e in rw e (omega (arith, i (omega arith) (omega arith)))

@@ -18,14 +18,24 @@ use Rattle.model.specs.Queries.{pairs_into, conjunction, conjunction_result}
 use Rattle.model.specs.RarestFirst.{rarer}
 use Rattle.model.specs.TopK.{found_into}
 use Rattle.model.specs.Weighted.{weighted_found, weighted_result}
-use Rattle.model.proofs.Lists.{keep-keep, keep_swap}
+use Rattle.model.proofs.Lists.{keep-keep}
 use Rattle.model.proofs.Distinct.{other, distinct-length}
 
 -- ---- dropping out twice
 
+and_swap : (a b : Bool) → (a && b) ≡ (b && a)
+and_swap true true = refl
+and_swap true false = refl
+and_swap false true = refl
+and_swap false false = refl
+
+keep_swap : (p q : ℕ → Bool) (xs : List ℕ) → keep p (keep q xs) ≡ keep q (keep p xs)
+keep_swap p q xs =
+    keep-keep p q xs ∙ ap (λ (r : ℕ → Bool). keep r xs) (fun_ext (λ x. and_swap (q x) (p x))) ∙ sym (keep-keep q p xs)
+
 -- what fails a test may go before it
-keep-without : (p : ℕ → Bool) (x : ℕ) → p x ≡ false → (xs : List ℕ) → keep p (keep (other x) xs) ≡ keep p xs
-keep-without p x e xs = keep-keep p (other x) xs ∙ ap (λ (r : ℕ → Bool). keep r xs) (fun_ext (λ y. go y (look (eqb x y))))
+keep_without : (p : ℕ → Bool) (x : ℕ) → p x ≡ false → (xs : List ℕ) → keep p (keep (other x) xs) ≡ keep p xs
+keep_without p x e xs = keep-keep p (other x) xs ∙ ap (λ (r : ℕ → Bool). keep r xs) (fun_ext (λ y. go y (look (eqb x y))))
   where
     go : (y : ℕ) → (eqb x y ≡ true) ⊎ (eqb x y ≡ false) → (other x y && p y) ≡ p y
     go y (inl t) = rw t (sym e ∙ ap p (eqb-true x y t))
@@ -37,7 +47,7 @@ distinct-keep p (x ∷ xs) = go (look (p x)) (distinct-keep p xs)
   where
     go : (p x ≡ true) ⊎ (p x ≡ false) → distinct (keep p xs) ≡ keep p (distinct xs) → distinct (keep p (x ∷ xs)) ≡ keep p (distinct (x ∷ xs))
     go (inl e) i = rw e (ap (λ (l : List ℕ). x ∷ l) (ap (keep (other x)) i ∙ keep_swap (other x) p (distinct xs)))
-    go (inr e) i = rw e (i ∙ sym (keep-without p x e (distinct xs)))
+    go (inr e) i = rw e (i ∙ sym (keep_without p x e (distinct xs)))
 
 pub distinct-distinct : (xs : List ℕ) → distinct (distinct xs) ≡ distinct xs
 distinct-distinct [] = refl

@@ -141,9 +141,9 @@ other_answers =
     ∷ opening_is (refused 5)
     ∷ []
 
-pub other_cases_lem : others ≡ other_answers
+pub other_cases : others ≡ other_answers
 unfolding encode bits_of pack samples_of samples_right unused_clear entries_at opening
-other_cases_lem = refl
+other_cases = refl
 
 -- ---- a wavelet tree and not a wavelet matrix, which arranges by the last bit alone: its third row would be 01
 

@@ -6,7 +6,7 @@ use Rattle.model.specs.Outcome.{Outcome, answered, refused}
 use Rattle.model.specs.Rows.{height}
 use Rattle.model.specs.Queries.{Pair}
 use Rattle.model.specs.TopK.{start, count_in, inner_nodes, ahead, last, with_places, Ended, done_with, spent_with, SearchResult}
-use Rattle.model.specs.Search.{is_opening, every_document, search_moves}
+use Rattle.model.specs.Search.{is_opening, search_moves}
 
 -- whether it is 'done'
 abbrev pub is_done : Outcome Ended → Bool
@@ -64,6 +64,6 @@ pub record Demand3 (N k allowance from : ℕ) (xs out : List ℕ) (greedy : Sear
   pub spent : allowance < need_of full
       → (greedy.outcome ≡ answered (spent_with front allowance)) × (greedy.answers ≡ overwrite (with_places from xs (take front full)) out)
   -- "Either number is how many moves opened a block"
-  pub openings : figure greedy.outcome ≡ tally is_opening (search_moves every_document (height N) xs k allowance)
+  pub openings : figure greedy.outcome ≡ tally is_opening (search_moves (height N) xs k allowance)
   -- "The probing shortlist, which has no allowance, answers the full list"
   pub probed : (probing.outcome ≡ answered (length full)) × (probing.answers ≡ overwrite (with_places from xs full) out')

@@ -11,8 +11,6 @@ pub mod Queries
 pub mod Papers
 pub mod TopK
 pub mod Search
-pub mod Calendar
-pub mod Dated
 pub mod RarestFirst
 pub mod Weighted
 pub mod Grammar
@@ -25,7 +23,6 @@ pub mod Frontier
 pub mod Demand2
 pub mod Demand3
 pub mod WeightedDemand
-pub mod DatedDemand
 pub mod RarestFirstDemand
 pub mod BooleanDemand
 pub mod RateDemand
@@ -41,7 +38,3 @@ pub mod ReadingCases
 pub mod BooleanCases
 pub mod RankSetCases
 pub mod RarestFirstCases
-pub mod CalendarCases
-pub mod DatedCases
-pub mod DatedNeedCases
-pub mod DatedRefusalCases

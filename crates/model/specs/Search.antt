@@ -1,9 +1,8 @@
 -- The search by moves on the waiting nodes (blocks). Document 01, "The questions", the shortlist.
--- It is told over any count of nodes, any test for the nodes that live, that is, that may wait, and any test for the documents that are shown: a plain search
--- shows every document, a dated one drops some (document 02, M-109).
+-- It is told over any count of nodes, and any test for the nodes that live, that is, that may wait.
 use Rattle.std.specs.Prelude.{ℕ, zero, suc, ◌+◌, ◌-◌, ◌*◌, List, [], ◌∷◌, Bool, true, false, cond, ◌&&◌, ◌||◌, length, ltb, eqb}
 use Rattle.bits.specs.Sequences.{tally}
-use Rattle.model.specs.Lists.{keep, any, insert_by}
+use Rattle.model.specs.Lists.{any, insert_by}
 use Rattle.model.specs.Queries.{Pair}
 use Rattle.model.specs.TopK.{Node, node, start, count_in, Answer, done, spent}
 
@@ -52,23 +51,6 @@ named_in (finds_spent ∷ ms) = named_in ms
 abbrev pub answer_of : List Move → Answer
 answer_of ms = cond (any is_spent ms) (spent (named_in ms) (tally is_opening ms)) (done (named_in ms) (tally is_opening ms))
 
--- ---- which documents are shown
-
--- a test of documents, as one of pairs
-abbrev pub listable : (ℕ → Bool) → Pair → Bool
-listable shown p = shown p.document
-
--- a plain search shows every document
-abbrev pub every_document : ℕ → Bool
-every_document d = true
-
--- an answer without the documents that are not shown
-abbrev pub only_shown : (ℕ → Bool) → Answer → Answer
-only_shown shown (done ps openings) = done (keep (listable shown) ps) openings
-only_shown shown (spent ps openings) = spent (keep (listable shown) ps) openings
-
--- ---- the moves
-
 module _ (count : Node → ℕ) (lives : Node → Bool) where
   -- a node that lives waits with its count
   abbrev pub wait : Node → List Waiting → List Waiting
@@ -84,23 +66,18 @@ module _ (count : Node → ℕ) (lives : Node → Bool) where
   move_of zero (node (suc l) q) c rest = record { move = finds_spent; waiting = record { block = node (suc l) q; count = c } ∷ rest }
   move_of (suc left) (node (suc l) q) c rest = record { move = opens (node (suc l) q); waiting = wait_halves l q rest }
 
-module _ (shown : ℕ → Bool) (count : Node → ℕ) (lives : Node → Bool) where
-  -- the moves, of which there are at most `fuel`, until k documents that are shown are named or nothing waits
+  -- the moves, of which there are at most `fuel`, until k documents are named or nothing waits
   abbrev pub moves_from : ℕ → ℕ → ℕ → List Waiting → List Move
   moves_from zero k left frontier = []
   moves_from (suc fuel) zero left frontier = []
   moves_from (suc fuel) (suc k) left [] = []
   moves_from (suc fuel) (suc k) left (w ∷ rest) =
-      let m = move_of count lives left w.block w.count rest in
+      let m = move_of left w.block w.count rest in
       elim m.move [
-        | names p ↦ names p ∷ moves_from fuel (cond (shown p.document) k (suc k)) left m.waiting
+        | names p ↦ names p ∷ moves_from fuel k left m.waiting
         | opens n ↦ opens n ∷ moves_from fuel (suc k) (left - 1) m.waiting
         | finds_spent ↦ finds_spent ∷ []
       ]
-
--- how many moves there are at most: one node at most waits first, an opening adds at most one to those that wait, and a naming takes one away
-abbrev pub most_moves : ℕ → ℕ
-most_moves allowance = 2 * allowance + 1
 
 -- the range of all numbers below 2 ^ h waits first, with the size of the range for its count
 abbrev pub begin : ℕ → List ℕ → List Waiting
@@ -110,6 +87,6 @@ begin h xs = cond (ltb 0 (length xs)) (record { block = node h 0; count = length
 abbrev pub occupied : List ℕ → Node → Bool
 occupied xs n = ltb 0 (count_in xs n)
 
--- the moves of a search of a range
-abbrev pub search_moves : (ℕ → Bool) → ℕ → List ℕ → ℕ → ℕ → List Move
-search_moves shown h xs k allowance = moves_from shown (count_in xs) (occupied xs) (most_moves allowance) k allowance (begin h xs)
+-- the moves of a search: each names a document or opens a node, so that k and the allowance bound them
+abbrev pub search_moves : ℕ → List ℕ → ℕ → ℕ → List Move
+search_moves h xs k allowance = moves_from (count_in xs) (occupied xs) (k + allowance) k allowance (begin h xs)

@@ -1,5 +1,5 @@
 -- The weighted shortlist: rare terms weigh more. Document 02, M-100, after document 000.
-use Rattle.std.specs.Prelude.{ℕ, zero, suc, ◌*◌, ◌^◌, ◌≤◌, min, List, [], ◌∷◌, map, Bool, cond, ◌&&◌, ◌||◌, length, take, leb, ltb, eqb}
+use Rattle.std.specs.Prelude.{ℕ, zero, suc, ◌+◌, ◌*◌, ◌^◌, ◌≤◌, min, List, [], ◌∷◌, map, Bool, cond, ◌&&◌, ◌||◌, length, take, leb, ltb, eqb}
 use Rattle.bits.specs.Sequences.{tally, below, occurrences}
 use Rattle.bits.specs.Bits.{sum}
 use Rattle.model.specs.Lists.{keep, any}
@@ -10,7 +10,7 @@ use Rattle.model.specs.Opening.{opened}
 use Rattle.model.specs.Queries.{Pair, flat, under}
 use Rattle.model.specs.RarestFirst.{rarest_first}
 use Rattle.model.specs.TopK.{Node, node, start, count_in, inner_nodes, ranking, need_by, Answer, answer_by, Ended, Found, found_of, SearchResult, found_into}
-use Rattle.model.specs.Search.{Waiting, Move, every_document, moves_from, most_moves}
+use Rattle.model.specs.Search.{Waiting, Move, moves_from}
 
 -- ---- weights
 
@@ -98,7 +98,7 @@ module _ (ws : List Weighed) where
 
   -- a node with an entry waits even with score 0, and one without never does; every other score comes through moves
   abbrev pub weighted_moves : ℕ → ℕ → ℕ → List Move
-  weighted_moves h k allowance = moves_from every_document score_in lives_in (most_moves allowance) k allowance (weighted_begin h)
+  weighted_moves h k allowance = moves_from score_in lives_in (k + allowance) k allowance (weighted_begin h)
 
 -- ---- the result
 

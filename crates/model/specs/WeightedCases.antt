@@ -183,9 +183,9 @@ limits =
     ∷ refuses small_archive (replicate 7 0 ++ 3 ∷ []) 4 3 8 16 11
     ∷ []
 
-pub limit_cases_lem : Hold limits
+pub limit_cases : Hold limits
 unfolding bits_of samples_right unused_clear entries_at opening
-limit_cases_lem = refl
+limit_cases = refl
 
 -- what stands past the size is not looked at, a term that the archive has or not
 pub past_the_size : weighted_result small_archive (2 ∷ 0 ∷ 3 ∷ []) 1 1 3 (nines 2) (nines 16)

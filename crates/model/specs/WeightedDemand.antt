@@ -1,6 +1,6 @@
 -- M-100, M-101 and M-107 (document 02) as one record, in the shape of `Demand3`: a field for each of M-100's sentences, with scores where that has counts.
 -- `proofs/Weighted/Demand` draws it from `weighted_result`.
-use Rattle.std.specs.Prelude.{ℕ, ◌*◌, ◌≤◌, ◌<◌, min, ◌≡◌, ◌⊎◌, List, [], ◌∷◌, map, Bool, true, ◌&&◌, ◌||◌, length, take, replicate, leb, ltb, eqb}
+use Rattle.std.specs.Prelude.{ℕ, ◌+◌, ◌*◌, ◌≤◌, ◌<◌, min, ◌≡◌, ◌⊎◌, List, [], ◌∷◌, map, Bool, true, ◌&&◌, ◌||◌, length, take, replicate, leb, ltb, eqb}
 use Rattle.bits.specs.Sequences.{tally, below, occurrences}
 use Rattle.bits.specs.Bits.{sum}
 use Rattle.model.specs.Lists.{any, Every, Sorted, overwrite}
@@ -10,7 +10,7 @@ use Rattle.model.specs.Format.{Library}
 use Rattle.model.specs.Queries.{Pair, flat, under}
 use Rattle.model.specs.RarestFirst.{RarestFirst}
 use Rattle.model.specs.TopK.{Node, node, start, count_in, inner_nodes, ahead, last, Ended, done_with, spent_with, SearchResult}
-use Rattle.model.specs.Search.{Move, is_opening, every_document, wait, moves_from, most_moves}
+use Rattle.model.specs.Search.{Move, is_opening, wait, moves_from}
 use Rattle.model.specs.Demand3.{is_done, figure}
 use Rattle.model.specs.Weighted.{Largest, weighted_moves}
 
@@ -86,7 +86,7 @@ pub record WeightedDemand (lib : Library) (given : List ℕ) (k allowance : ℕ)
   -- .. in which the node of all numbers waits first and then the halves of each that is opened, if it may: "a block with an entry of these words waits even
   -- with score 0, and one without is never waiting"
   pub moves_begin : moves
-      ≡ moves_from every_document (node_score lib terms weight_of) (node_has_entry lib terms) (most_moves allowance) k allowance
+      ≡ moves_from (node_score lib terms weight_of) (node_has_entry lib terms) (k + allowance) k allowance
       (wait (node_score lib terms weight_of) (node_has_entry lib terms) (node (height lib.documents) 0) [])
   -- "the work slice's end": its first 4 * N numbers are 0, and the rest is untouched
   pub working : weighted.work ≡ overwrite (replicate (4 * lib.documents) 0) work

@@ -6,7 +6,6 @@ pub mod Kept
 pub mod Halves
 pub mod Made
 pub mod Advances
-pub mod Lists
 pub mod Course
 pub mod Opens
 pub mod Searching

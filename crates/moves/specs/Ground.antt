@@ -2,7 +2,7 @@
 use Rattle.std.specs.Prelude.{ℕ, ◌+◌, ◌-◌, ◌*◌, ◌/◌, ◌%◌, ◌^◌, List, [], Bool}
 use Rattle.frontier.specs.declared.Record.{Record}
 use Rattle.model.specs.TopK.{Node, node}
-use Rattle.model.specs.Search.{Waiting, Move, wait, moves_from, most_moves}
+use Rattle.model.specs.Search.{Waiting, Move, wait, moves_from}
 
 -- a tree over N documents, a count of its nodes, the nodes that live, and two numbers that go with a waiting node
 pub record Ground : Type 0 where
@@ -17,9 +17,9 @@ pub record Ground : Type 0 where
 abbrev pub root_waits : Ground → List Waiting
 root_waits G = wait G.count G.lives (node G.height 0) []
 
--- the moves of a search that shows some documents
-abbrev pub moves_of : Ground → (ℕ → Bool) → ℕ → ℕ → List Move
-moves_of G shown k allowance = moves_from shown G.count G.lives (most_moves allowance) k allowance (root_waits G)
+-- the moves of a search
+abbrev pub moves_of : Ground → ℕ → ℕ → List Move
+moves_of G k allowance = moves_from G.count G.lives (k + allowance) k allowance (root_waits G)
 
 -- the count; the start and the depth. Starts differ, so that the second number orders as the start does
 abbrev pub record_in : Ground → Node → Record

@@ -5,7 +5,7 @@ use Rattle.model.specs.Outcome.{Outcome, answered, refused}
 use Rattle.model.specs.Queries.{flat}
 use Rattle.model.specs.TopK.{done_with, spent_with, Found, found_of, SearchResult}
 use Rattle.model.specs.TopK as model
-use Rattle.model.specs.Search.{Move, names, opens, finds_spent, answer_of, only_shown}
+use Rattle.model.specs.Search.{Move, names, opens, finds_spent, answer_of}
 use Rattle.model.specs.Search as search
 use Rattle.model.specs.Frontier.{blocks}
 use Rattle.moves.specs.declared.Ended.{Ended}
@@ -34,49 +34,32 @@ goes_on p k = not p.spent && (ltb 0 p.waiting && ltb p.listed k)
 abbrev pub move_at : Ground → ℕ → Progress → List ℕ → search.Moved
 move_at G allowance p work = next_move G (allowance - p.openings) (frontier_in G work p.waiting)
 
+-- what a move says, where n nodes wait after it
+abbrev pub after : Move → Progress → ℕ → Progress
+after (names d) p n = record { waiting = n; listed = p.listed + 1; openings = p.openings; spent = false }
+after (opens b) p n = record { waiting = n; listed = p.listed; openings = p.openings + 1; spent = false }
+after finds_spent p n = record { waiting = n; listed = p.listed; openings = p.openings; spent = true }
+
+-- a document that is named goes into the answer slice as pair i, for which there is room
+abbrev pub RoomFor : Move → ℕ → List ℕ → Type 0
+RoomFor (names d) i answers = 2 * i + 2 ≤ length answers
+RoomFor (opens b) i answers = Unit {0}
+RoomFor finds_spent i answers = Unit {0}
+
 -- an opening that is counted is one of fewer than 2 ^ 32
 abbrev pub Countable : Move → ℕ → Type 0
 Countable (names d) openings = Unit {0}
 Countable (opens b) openings = openings + 1 < 2 ^ 32
 Countable finds_spent openings = Unit {0}
 
--- a document that is named is one of N
-abbrev pub NamesBelow : ℕ → Move → Type 0
-NamesBelow N (names d) = d.document < N
-NamesBelow N (opens b) = Unit {0}
-NamesBelow N finds_spent = Unit {0}
+abbrev pub written_by : Move → ℕ → List ℕ → List ℕ
+written_by (names d) i answers = set (set answers (2 * i) d.document) (2 * i + 1) d.count
+written_by (opens b) i answers = answers
+written_by finds_spent i answers = answers
 
--- a document that is dropped: nothing is said of it, and n nodes wait after the move
-abbrev pub passed : Progress → ℕ → Progress
-passed p n = record { waiting = n; listed = p.listed; openings = p.openings; spent = false }
-
-module _ (shown : ℕ → Bool) where
-  -- a document that is named and not shown is dropped
-  abbrev pub dropped : Move → Bool
-  dropped (names d) = not (shown d.document)
-  dropped (opens b) = false
-  dropped finds_spent = false
-
-  -- what a move says, where n nodes wait after it: a document that is named is listed if it is shown
-  abbrev pub after : Move → Progress → ℕ → Progress
-  after (names d) p n = record { waiting = n; listed = cond (shown d.document) (p.listed + 1) p.listed; openings = p.openings; spent = false }
-  after (opens b) p n = record { waiting = n; listed = p.listed; openings = p.openings + 1; spent = false }
-  after finds_spent p n = record { waiting = n; listed = p.listed; openings = p.openings; spent = true }
-
-  -- it goes into the answer slice as pair i, for which there is room
-  abbrev pub RoomFor : Move → ℕ → List ℕ → Type 0
-  RoomFor (names d) i answers = shown d.document ≡ true → 2 * i + 2 ≤ length answers
-  RoomFor (opens b) i answers = Unit {0}
-  RoomFor finds_spent i answers = Unit {0}
-
-  abbrev pub written_by : Move → ℕ → List ℕ → List ℕ
-  written_by (names d) i answers = cond (shown d.document) (set (set answers (2 * i) d.document) (2 * i + 1) d.count) answers
-  written_by (opens b) i answers = answers
-  written_by finds_spent i answers = answers
-
-pub record Advanced (G : Ground) (shown : ℕ → Bool) (allowance : ℕ) (p : Progress) (answers work : List ℕ) (r : Progress) (answers' work' : List ℕ) : Type 0 where
-  pub progress : r ≡ after shown (move_at G allowance p work).move p r.waiting
-  pub written : answers' ≡ written_by shown (move_at G allowance p work).move p.listed answers
+pub record Advanced (G : Ground) (allowance : ℕ) (p : Progress) (answers work : List ℕ) (r : Progress) (answers' work' : List ℕ) : Type 0 where
+  pub progress : r ≡ after (move_at G allowance p work).move p r.waiting
+  pub written : answers' ≡ written_by (move_at G allowance p work).move p.listed answers
   pub moves : Moves G work (move_at G allowance p work).waiting work' r.waiting
 
 -- ---- how it ends
@@ -99,9 +82,9 @@ ended_by p = cond p.spent (spent_with p.listed p.openings) (done_with p.listed p
 abbrev pub result_is : Ended → List ℕ → List ℕ → SearchResult model.Ended
 result_is r answers work = record { outcome = answered (ended_is r); answers = answers; work = work }
 
--- what is to be found: the answer that is read off the moves, without the documents that are not shown
-abbrev pub found_by : Ground → (ℕ → Bool) → ℕ → ℕ → Found model.Ended
-found_by G shown k allowance = found_of flat G.documents (only_shown shown (answer_of (moves_of G shown k allowance)))
+-- what is to be found: the answer that is read off the moves
+abbrev pub found_by : Ground → ℕ → ℕ → Found model.Ended
+found_by G k allowance = found_of flat G.documents (answer_of (moves_of G k allowance))
 
 -- ---- the answer to a question, with its refusals
 

@@ -1,8 +1,8 @@
-// What searches by moves have in common: the moves, how far a search is, and how it ends. The laws are over any count of nodes, any test for the nodes that
-// live, and any test for the documents that are shown.
+// What searches by moves have in common: the moves, how far a search is, and how it ends. The laws are over any count of nodes, and any test for
+// the nodes that live.
 mod progress;
 
-pub use progress::{Progress, answer_of, ending, goes_on, listed, pass, tell};
+pub use progress::{Progress, answer_of, ending, goes_on, listed, tell};
 
 // Each move of the search names a document with its count, opens a node, or finds its allowance spent.
 #[derive(Drop)]

@@ -2,8 +2,7 @@
 ghost use Rattle.std.specs.Prelude.{◌≡◌, ◌+◌, ◌*◌, ◌^◌, ◌≤◌, ◌<◌, length, set};
 ghost use Rattle.model.specs.Outcome.{answered};
 ghost use Rattle.moves.specs.Moves.{move_is};
-ghost use Rattle.model.specs.Search.{every_document};
-ghost use Rattle.moves.specs.Results.{goes_on, after, passed, RoomFor, Countable, written_by, ended_by, ended_is, listed_by, topKOf};
+ghost use Rattle.moves.specs.Results.{goes_on, after, RoomFor, Countable, written_by, ended_by, ended_is, listed_by, topKOf};
 
 use crate::{Ended, Move, Moved, TopK};
 
@@ -43,9 +42,9 @@ fn list(answers: &mut [u32], i: usize, document: u32, count: u32) -> usize
 
 // What a move says: a document goes into the answer slice, an opening is counted.
 pub fn tell(moved: Moved, p: Progress, answers: &mut [u32]) -> Progress
-    requires { RoomFor every_document (move_is moved.made) p.listed answers.old × Countable (move_is moved.made) p.openings }
-    ensures value { result ≡ after every_document (move_is moved.made) p moved.waiting }
-    ensures answers_after { answers.new ≡ written_by every_document (move_is moved.made) p.listed answers.old }
+    requires { RoomFor (move_is moved.made) p.listed answers.old × Countable (move_is moved.made) p.openings }
+    ensures value { result ≡ after (move_is moved.made) p moved.waiting }
+    ensures answers_after { answers.new ≡ written_by (move_is moved.made) p.listed answers.old }
 {
     let waiting = moved.waiting;
     let listed = p.listed;
@@ -73,18 +72,6 @@ pub fn tell(moved: Moved, p: Progress, answers: &mut [u32]) -> Progress
             openings,
             spent: true,
         },
-    }
-}
-
-// A document that is named and dropped: it is not listed.
-pub fn pass(moved: Moved, p: Progress) -> Progress
-    ensures { result ≡ passed p moved.waiting }
-{
-    Progress {
-        waiting: moved.waiting,
-        listed: p.listed,
-        openings: p.openings,
-        spent: false,
     }
 }
 

@@ -3,8 +3,6 @@
 pub mod archive;
 mod asked;
 pub mod boolean;
-pub mod dated;
-pub mod days;
 pub mod marks;
 pub mod numbers;
 pub mod orders;

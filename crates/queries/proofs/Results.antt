@@ -14,7 +14,7 @@ use Rattle.model.specs.Lists.{Within}
 use Rattle.model.specs.Outcome.{answered, refused}
 use Rattle.model.specs.Opening.{contents}
 use Rattle.model.specs.Queries.{Range, bounds_of, quantile, access_result, rank_result, select_result, range_result, quantile_result}
-use Rattle.model.proofs.Wavelet.Sorted.{quantile-ranked, tally-below-suc}
+use Rattle.model.proofs.Wavelet.Sorted.{quantile_ranked, tally-below-suc}
 use Rattle.answers.proofs.Occurrences.{occurs_lt}
 use Rattle.archive.specs.declared.Layout.{Layout}
 use Rattle.archive.specs.Layout.{Opened}
@@ -26,7 +26,7 @@ use Rattle.queries.specs.Ranges.{quantile_of}
 -- the document of a rank is one of the entries
 pub quantile_lt : (N : ℕ) (xs : List ℕ) (r : ℕ) → Within N xs → r < length xs → quantile r xs < N
 quantile_lt N xs r w l =
-    let p = quantile-ranked xs r l in
+    let p = quantile_ranked xs r l in
     occurs_lt N (quantile r xs) xs w (omega (arith, p.under, p.over, tally-below-suc (quantile r xs) xs))
 
 -- ---- of an opened archive

@@ -27,7 +27,7 @@ use Rattle.model.specs.TopK.{node, inner_nodes, needed, last, ranking, full_list
 use Rattle.model.proofs.Height.{height_le_12}
 use Rattle.model.proofs.Lists.{tally-keep}
 use Rattle.model.proofs.Sums.{sum-take_le}
-use Rattle.model.proofs.Sorting.{every-cons, every_take}
+use Rattle.model.proofs.Sorting.{every_cons, every_take}
 use Rattle.model.proofs.Ranking.{ranking_same}
 use Rattle.archive.specs.Layout.{layout_of, Opened}
 use Rattle.archive.proofs.Opened.{limits, documents-are, entries-size, lengths_total}
@@ -39,9 +39,9 @@ use Rattle.report.proofs.Lengths.{short, length_lines, length_last}
 
 -- ---- the documents listed
 
-every-up_from : (p : ℕ → Bool) (s n : ℕ) → ((d : ℕ) → d < s + n → p d ≡ true) → Every p (up_from s n)
-every-up_from p s zero h = refl
-every-up_from p s (suc n) h = every-cons p s (up_from (suc s) n) (h s (omega arith)) (every-up_from p (suc s) n (λ d l. h d (omega arith)))
+every_up_from : (p : ℕ → Bool) (s n : ℕ) → ((d : ℕ) → d < s + n → p d ≡ true) → Every p (up_from s n)
+every_up_from p s zero h = refl
+every_up_from p s (suc n) h = every_cons p s (up_from (suc s) n) (h s (omega arith)) (every_up_from p (suc s) n (λ d l. h d (omega arith)))
 
 full-short : (N k : ℕ) (xs : List ℕ) → N ≤ 4096 → Every short (full_list N k xs)
 full-short N k xs documents = every_take short k (ranking (listing N xs)) (ranking_same (listing N xs) long ∙ listed)
@@ -59,7 +59,7 @@ full-short N k xs documents = every_take short k (ranking (listing N xs)) (ranki
           tally-keep long present pairs,
           tally_le (λ p. present p && long p) long (λ p e. (and_both (present p) (long p) e).1) pairs,
           tally-map long (pair_of xs) (below N),
-          every-up_from (λ d. short (pair_of xs d)) 0 N (λ d l. lt-ltb d 10000 (omega arith)),
+          every_up_from (λ d. short (pair_of xs d)) 0 N (λ d l. lt-ltb d 10000 (omega arith)),
         )
 
 -- ---- the openings

@@ -101,10 +101,10 @@ module _ (bytes : List ℕ) (k answers work : ℕ) (s : Search) (ok : Searchable
 
 module _ (bytes : List ℕ) (r : model.Range) (k answers work : ℕ) where
   module _ (l : Layout) (o : Opened bytes l) where
-    abbrev pub search_at : ℕ → ℕ → Search
+    abbrev search_at : ℕ → ℕ → Search
     search_at a b = record { levels = l.levels; documents = l.documents; a = a; b = b }
 
-    pub searchable : (a b : ℕ) → Inside l.levels.entries (range.Entries a b) → Searchable bytes (search_at a b)
+    searchable : (a b : ℕ) → Inside l.levels.entries (range.Entries a b) → Searchable bytes (search_at a b)
     searchable a b inside = record {
       stored = stored bytes l o;
       high = ap (λ (x : Layout). x.levels.height) o.shape;

@@ -11,7 +11,7 @@ use Rattle.model.specs.Lists.{overwrite}
 use Rattle.model.specs.Outcome.{answered}
 use Rattle.model.specs.Rows.{height}
 use Rattle.model.specs.Queries.{Pair, flat, pairs_in, first_place}
-use Rattle.model.specs.TopK.{full_list, need, covered, Answer, done, spent, top_k, Ended, ended_of, pairs_of, with_places, SearchResult, found_of, found_into}
+use Rattle.model.specs.TopK.{full_list, need, covered, Answer, done, spent, top_k, Ended, ended_of, pairs_of, with_places, SearchResult, found_into}
 use Rattle.model.proofs.Sorting.{every_take}
 use Rattle.answers.specs.Spread.{Counted}
 use Rattle.answers.proofs.Spreads.{pairs-written, length-written, placed_written}
@@ -83,9 +83,11 @@ module _ (bytes : List ℕ) (s : Search) (ok : Searchable bytes s) (k : ℕ) (ou
     ready : length ps ≤ min k N → Counted xs ps → (3 * n ≤ length after) × (n ≤ 4096) × Counted xs (pairs_in after n)
     ready short every = rw left (spread_ready N k ok.few xs ps short out room n many every)
 
-  -- of a search by moves, whatever its answer
-  module _ (answer : Answer) (short : length (pairs_of answer) ≤ min k N) (every : Counted xs (pairs_of answer)) (r : moves.Ended) (after working : List ℕ)
-      (promise : result_is r after working ≡ found_into out work (answered (found_of flat N answer))) (n : ℕ) (many : n ≡ listed_by (ended_is r)) where
+  module _ (allowance : ℕ) (r : moves.Ended) (after working : List ℕ)
+      (promise : result_is r after working ≡ found_into out work (answered (greedy_pairs k allowance (entries_of bytes s)))) (n : ℕ) (many : n ≡ listed_by (ended_is r)) where
+    abbrev answer : Answer
+    answer = top_k (height N) N xs k allowance
+
     left : after ≡ overwrite (flat (pairs_of answer)) out
     left = ap (λ (x : SearchResult Ended). x.answers) promise
 
@@ -95,28 +97,16 @@ module _ (bytes : List ℕ) (s : Search) (ok : Searchable bytes s) (k : ℕ) (ou
     listed_is_lem : n ≡ length (pairs_of answer)
     listed_is_lem = many ∙ ap listed_by ended ∙ listed-length answer
 
-    pub answer_ready : (3 * n ≤ length after) × (n ≤ 4096) × Counted xs (pairs_in after n)
-    answer_ready = ready (pairs_of answer) after left n listed_is_lem short every
+    pub greedy_ready : (3 * n ≤ length after) × (n ≤ 4096) × Counted xs (pairs_in after n)
+    greedy_ready = ready (pairs_of answer) after left n listed_is_lem (length-top_k (height N) N xs k allowance) (greedy-counted N k xs (height N) allowance)
 
-    pub answer_placed : (final : List ℕ) → final ≡ overwrite (with_places s.a xs (pairs_in after n)) after
-        → (t : TopK) → topKOf t ≡ answered (ended_is r) → topKIs t final working ≡ found_into out work (answered (found_of (with_places s.a xs) N answer))
-    answer_placed final e t said = λ i. record {
+    pub greedy_placed : (final : List ℕ) → final ≡ overwrite (with_places s.a xs (pairs_in after n)) after
+        → (t : TopK) → topKOf t ≡ answered (ended_is r) → topKIs t final working ≡ found_into out work (answered (greedy_of k allowance (entries_of bytes s)))
+    greedy_placed final e t said = λ i. record {
       outcome = (said ∙ ap answered ended) i;
       answers = spread (pairs_of answer) after left n listed_is_lem final e i;
       work = ap (λ (x : SearchResult Ended). x.work) promise i;
     }
-
-  module _ (allowance : ℕ) (r : moves.Ended) (after working : List ℕ)
-      (promise : result_is r after working ≡ found_into out work (answered (greedy_pairs k allowance (entries_of bytes s)))) (n : ℕ) (many : n ≡ listed_by (ended_is r)) where
-    abbrev plain : Answer
-    plain = top_k (height N) N xs k allowance
-
-    pub greedy_ready : (3 * n ≤ length after) × (n ≤ 4096) × Counted xs (pairs_in after n)
-    greedy_ready = answer_ready plain (length-top_k (height N) N xs k allowance) (greedy-counted N k xs (height N) allowance) r after working promise n many
-
-    pub greedy_placed : (final : List ℕ) → final ≡ overwrite (with_places s.a xs (pairs_in after n)) after
-        → (t : TopK) → topKOf t ≡ answered (ended_is r) → topKIs t final working ≡ found_into out work (answered (greedy_of k allowance (entries_of bytes s)))
-    greedy_placed = answer_placed plain (length-top_k (height N) N xs k allowance) (greedy-counted N k xs (height N) allowance) r after working promise n many
 
   module _ (n : ℕ) (after working : List ℕ) (promise : listed_is n after working ≡ found_into out work (answered (probing_pairs k (entries_of bytes s)))) where
     abbrev full : List Pair

@@ -7,7 +7,6 @@ pub use operations::{
     greedy_entries, greedy_entries_opened, greedy_terms, greedy_terms_opened, probing_entries,
     probing_entries_opened, probing_terms, probing_terms_opened,
 };
-pub use question::over;
 use search::Search;
 
 // A question before the search: what is searched, or the number of a refusal.

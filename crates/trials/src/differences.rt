@@ -1,6 +1,6 @@
-// How many questions of each kind were compared, and how they ended; and a line for each difference.
+// How many questions of each kind were compared, and a line for each difference.
 use libc::STDOUT_FILENO;
-use plain::outcome::{DONE, NUMBER, Outcome, Question, REFUSED};
+use plain::outcome::{DONE, NUMBER, Outcome, Question, REFUSED, SPENT};
 use slices::{at, count_at, plus};
 
 pub fn text(bytes: &[u8]) {
@@ -12,7 +12,7 @@ pub fn decimal(x: u32) {
 }
 
 // The kinds of questions.
-pub fn name(kind: u32) {
+fn name(kind: u32) {
     match kind {
         0 => text(b"write"),
         1 => text(b"open"),
@@ -40,45 +40,37 @@ pub fn name(kind: u32) {
         23 => text(b"per mille of small sizes"),
         24 => text(b"rank of a set"),
         25 => text(b"rarest first"),
-        26 => text(b"weighted of orders"),
-        27 => text(b"dated of entries"),
-        28 => text(b"dated of terms"),
-        _ => text(b"dated of days"),
+        _ => text(b"weighted of orders"),
     }
 }
 
-pub const KINDS: u32 = 30;
+const KINDS: u32 = 27;
 
-// A refusal's slot is its number and this. The plain side has no archive to refuse, so that no number is below 10.
-pub const REFUSALS: u32 = 20;
-
-// How many of the dated searches end so, an end's slot being its number and this; and how many of those that are done list fewer than k documents.
-pub const DATED_ENDS: u32 = 39;
-
-pub const DATED_FEWER: u32 = 43;
+// A refusal's slot is its number and this.
+const REFUSALS: u32 = 27;
 
 // How many of the weighted searches of patterns end so: an end's slot is its number and this.
-pub const ENDS: u32 = 48;
+const ENDS: u32 = 48;
 
 // How many of the places that are asked for are the end.
-pub const AT_THE_END: u32 = 53;
+const AT_THE_END: u32 = 53;
 
 // How many of the boolean questions match no document, some, and all.
-pub const NO_MATCH: u32 = 54;
+const NO_MATCH: u32 = 54;
 
-pub const SOME_MATCH: u32 = 55;
+const SOME_MATCH: u32 = 55;
 
-pub const ALL_MATCH: u32 = 56;
+const ALL_MATCH: u32 = 56;
 
 // How many of the rates are exact halves.
-pub const HALVES: u32 = 57;
+const HALVES: u32 = 57;
 
 // How many of the sets have no entry before the place, some, and all of them.
-pub const NO_MEMBER: u32 = 58;
+const NO_MEMBER: u32 = 58;
 
-pub const SOME_MEMBERS: u32 = 59;
+const SOME_MEMBERS: u32 = 59;
 
-pub const ALL_MEMBERS: u32 = 60;
+const ALL_MEMBERS: u32 = 60;
 
 const DIFFERENCES: u32 = 63;
 
@@ -95,7 +87,7 @@ fn same(found: Outcome, expected: Outcome) -> bool {
     found.z == expected.z
 }
 
-pub fn show(x: u32) {
+fn show(x: u32) {
     text(b" ");
     decimal(x);
 }
@@ -194,20 +186,6 @@ pub fn count_members(count: Outcome, place: u32, made: &mut [u32; 64]) {
     }
 }
 
-// Of a dated search for k documents.
-pub fn count_dated(end: Outcome, k: u32, made: &mut [u32; 64]) {
-    if end.what == REFUSED {
-        return;
-    }
-    count_at(made, plus(DATED_ENDS, end.what));
-    if end.what != DONE {
-        return;
-    }
-    if end.x < k {
-        count_at(made, DATED_FEWER);
-    }
-}
-
 // How many there are.
 pub fn differences(made: &[u32; 64]) -> u32 {
     at(made, DIFFERENCES)
@@ -220,5 +198,89 @@ pub fn show_numbers(numbers: &[u32], size: u32) {
         show(at(numbers, i));
         i += 1;
     }
+    text(b"\n");
+}
+
+fn line(kind: u32, made: &[u32; 64]) {
+    name(kind);
+    show(at(made, kind));
+    text(b"\n");
+}
+
+fn kinds(made: &[u32; 64]) {
+    let mut kind = 0;
+    while kind < KINDS {
+        line(kind, made);
+        kind += 1;
+    }
+}
+
+fn refusal_line(x: u32, made: &[u32; 64]) {
+    let times = at(made, plus(REFUSALS, x));
+    if times == 0 {
+        return;
+    }
+    text(b"refused");
+    show(x);
+    text(b":");
+    show(times);
+    text(b"\n");
+}
+
+fn refusals(made: &[u32; 64]) {
+    let mut x = 0;
+    while x < 20 {
+        refusal_line(x, made);
+        x += 1;
+    }
+}
+
+fn ends(made: &[u32; 64]) {
+    text(b"weighted of patterns: done");
+    show(at(made, plus(ENDS, DONE)));
+    text(b", spent");
+    show(at(made, plus(ENDS, SPENT)));
+    text(b"\nplaces at the end");
+    show(at(made, AT_THE_END));
+    text(b"\n");
+}
+
+fn matches(made: &[u32; 64]) {
+    text(b"boolean: no document");
+    show(at(made, NO_MATCH));
+    text(b", some");
+    show(at(made, SOME_MATCH));
+    text(b", all");
+    show(at(made, ALL_MATCH));
+    text(b"\n");
+}
+
+fn halves(made: &[u32; 64]) {
+    text(b"rates at a half");
+    show(at(made, HALVES));
+    text(b"\n");
+}
+
+fn members(made: &[u32; 64]) {
+    text(b"rank of a set: no entry");
+    show(at(made, NO_MEMBER));
+    text(b", some");
+    show(at(made, SOME_MEMBERS));
+    text(b", all");
+    show(at(made, ALL_MEMBERS));
+    text(b"\n");
+}
+
+// One line a kind of question, and how many were compared; how the weighted searches of patterns ended, how many places were the end, how many
+// documents matched, how many rates were halves, and how many entries belonged to a set; then how many are refused, by number; then the differences.
+pub fn totals(made: &[u32; 64]) {
+    kinds(made);
+    ends(made);
+    matches(made);
+    halves(made);
+    members(made);
+    refusals(made);
+    text(b"differences");
+    show(differences(made));
     text(b"\n");
 }

@@ -1,11 +1,8 @@
 // One question of each kind, drawn from a seed, the places of a document in turn, every pattern of terms among three, every short sequence of words and
-// marks, every rate of a small size, and every day, through the code and beside the plain side's answer; differences are printed and counted.
+// marks, and every rate of a small size, through the code and beside the plain side's answer; differences are printed and counted.
 pub mod booleans;
-pub mod dated_searches;
-mod days;
 pub mod differences;
 mod edits;
-pub mod every_day;
 mod expressions;
 pub mod lists;
 pub mod numbers;
@@ -17,4 +14,3 @@ pub mod rates;
 pub mod searches;
 pub mod sequences;
 pub mod sets;
-pub mod totals;

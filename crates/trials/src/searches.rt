@@ -9,7 +9,7 @@ use plain::search;
 use slices::{both_same, least, minus, times, up};
 use top_k::Probed;
 
-pub fn ended(found: TopK) -> Outcome {
+fn ended(found: TopK) -> Outcome {
     match found {
         TopK::Done { listed, openings } => outcome_of(DONE, listed, openings),
         TopK::Spent { listed, allowance } => outcome_of(SPENT, listed, allowance),
@@ -102,8 +102,8 @@ fn numbers_each(kind: u32) -> u32 {
     3
 }
 
-// A search of a range for k documents, with room for these.
-pub fn drawn_search(kind: u32, e: Ends, l: Sizes, seed: u32) -> Question {
+fn drawn(kind: u32, l: Sizes, t: Terms, seed: u32) -> Question {
+    let e = drawn_ends(kind, l, t, draw(seed, 1));
     let k = drawn_k(l, draw(seed, 2));
     let asked = times(least(k, l.documents), numbers_each(kind));
     Question {
@@ -115,10 +115,6 @@ pub fn drawn_search(kind: u32, e: Ends, l: Sizes, seed: u32) -> Question {
         answers: room(draw(seed, 3), asked),
         work: room(draw(seed, 4), up(l.documents, 2)),
     }
-}
-
-fn drawn(kind: u32, l: Sizes, t: Terms, seed: u32) -> Question {
-    drawn_search(kind, drawn_ends(kind, l, t, draw(seed, 1)), l, seed)
 }
 
 pub fn ask(
@@ -147,7 +143,7 @@ pub fn ask(
     expected
 }
 
-pub fn with_allowance(q: Question, allowance: u32) -> Question {
+fn with_allowance(q: Question, allowance: u32) -> Question {
     Question {
         kind: q.kind,
         a: q.a,

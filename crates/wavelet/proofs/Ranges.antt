@@ -40,8 +40,8 @@ byte_le true = omega arith
 byte_le false = omega arith
 
 -- of x if it is not above r, else of 0
-pub byte-mul_le : (x r : ℕ) → (bool_byte (leb x r) * x ≤ r) × (bool_byte (leb x r) * x ≤ x)
-byte-mul_le x r = go (leb x r) refl
+pub byte_mul_le : (x r : ℕ) → (bool_byte (leb x r) * x ≤ r) × (bool_byte (leb x r) * x ≤ x)
+byte_mul_le x r = go (leb x r) refl
   where
     go : (b : Bool) → leb x r ≡ b → (bool_byte b * x ≤ r) × (bool_byte b * x ≤ x)
     go true e = let l = leb-true x r e in (omega arith, omega arith)

@@ -126,5 +126,5 @@ module _ (bits : List ℕ) (a b lo hi : ℕ) (node : Ranked) (r : node ≡ ranke
   pub ranked_self : node ≡ ranked_of bits node.start node.end
   ranked_self = r ∙ (λ i. ranked_of bits (sym (ap (λ (x : Ranked). x.start) r) i) (sym (ap (λ (x : Ranked). x.end) r) i))
 
-  pub ranked-span : span_in node lo hi ≡ span a lo hi b
-  ranked-span = ap (λ (x : Ranked). span_in x lo hi) r
+  pub ranked_span : span_in node lo hi ≡ span a lo hi b
+  ranked_span = ap (λ (x : Ranked). span_in x lo hi) r

@@ -8,7 +8,6 @@ ghost use Rattle.model.specs.TopK.{found_into};
 ghost use Rattle.archive.specs.Layout.{Opened};
 ghost use Rattle.paths.specs.Paths.{terms_of, Asked};
 ghost use Rattle.moves.specs.Moves.{Kept};
-ghost use Rattle.model.specs.Search.{every_document};
 ghost use Rattle.moves.specs.Results.{Begun, move_at, RoomFor, Advanced, result_is};
 ghost use Rattle.weighted.specs.Grounds.{ground_of, found_in};
 ghost use Rattle.weighted.specs.Steps.{Question, Leads};
@@ -64,8 +63,8 @@ fn advance(
     requires question { Question archive.now l q weights }
     requires leads { Leads archive.now l q path.old at }
     requires waiting_nonzero { (0 < p.waiting) × Kept (ground_of archive.now l q) work.old p.waiting × (p.openings ≤ allowance) }
-    requires room_for { RoomFor every_document (move_at (ground_of archive.now l q) allowance p work.old).move p.listed answers.old }
-    ensures advanced { Advanced (ground_of archive.now l q) every_document allowance p answers.old work.old
+    requires room_for { RoomFor (move_at (ground_of archive.now l q) allowance p work.old).move p.listed answers.old }
+    ensures advanced { Advanced (ground_of archive.now l q) allowance p answers.old work.old
         result.progress answers.new work.new }
     ensures leads_2 { Leads archive.now l q path.new result.at }
 {

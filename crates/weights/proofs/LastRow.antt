@@ -16,9 +16,9 @@ use Rattle.wavelet.proofs.Ranges.{byte_le}
 use Rattle.weights.specs.Documents.{of_two}
 
 -- a test as a number, in the code and in the definition
-byte-bit : (b : Bool) → bool_byte b ≡ bit b
-byte-bit true = refl
-byte-bit false = refl
+byte_bit : (b : Bool) → bool_byte b ≡ bit b
+byte_bit true = refl
+byte_bit false = refl
 
 bit_few : (c : ℕ) → c < 2 → bit (ltb 0 c) ≡ c
 bit_few zero l = refl
@@ -34,7 +34,7 @@ ltb_sub r c = go (look (ltb r c))
 
 -- whether there is an entry from a up to but without b
 pub byte_some : (a b : ℕ) → bool_byte (ltb a b) ≡ bit (ltb 0 (b - a))
-byte_some a b = byte-bit (ltb a b) ∙ ap bit (ltb_sub a b)
+byte_some a b = byte_bit (ltb a b) ∙ ap bit (ltb_sub a b)
 
 module _ (bits : List ℕ) (lo hi : ℕ) (order : lo ≤ hi) where
   -- a range of one entry has one document, an empty one none
@@ -49,7 +49,7 @@ module _ (bits : List ℕ) (lo hi : ℕ) (order : lo ≤ hi) where
   pub two-are : (r : ℕ) → r ≡ rank 1 bits hi - rank 1 bits lo → 2 ≤ hi - lo
       → (bool_byte (ltb 0 r) + bool_byte (ltb r (hi - lo)) ≡ of_two bits lo hi) × (bool_byte (ltb 0 r) + bool_byte (ltb r (hi - lo)) ≤ hi - lo)
   two-are r e l =
-      let one : bool_byte (ltb 0 r) ≡ bit (ltb 0 (rank 1 bits hi - rank 1 bits lo)) = byte-bit (ltb 0 r) ∙ ap (λ (k : ℕ). bit (ltb 0 k)) e in
+      let one : bool_byte (ltb 0 r) ≡ bit (ltb 0 (rank 1 bits hi - rank 1 bits lo)) = byte_bit (ltb 0 r) ∙ ap (λ (k : ℕ). bit (ltb 0 k)) e in
       let none : bool_byte (ltb r (hi - lo)) ≡ bit (ltb 0 (zeros_in bits lo hi)) =
       byte_some r (hi - lo) ∙ ap (λ (k : ℕ). bit (ltb 0 (hi - lo - k))) e in
       (omega (arith, one, none), omega (arith, two_le r))

@@ -1,6 +1,6 @@
 //! A refused argument has its name: each question of a small library, at and past every edge.
 use masuvelior::Over::{Entries, Terms};
-use masuvelior::{per_mille, write, Archive, Argument, Day, Expr, Over, Refusal, Validity};
+use masuvelior::{per_mille, write, Archive, Argument, Expr, Over, Refusal};
 
 const EDGES: [u32; 12] = [0, 1, 2, 3, 4, 5, 7, 8, 9, 10, u32::MAX - 1, u32::MAX];
 
@@ -41,7 +41,6 @@ fn of_one_number() {
 fn of_range(archive: &Archive, over: &Over, faults: [(bool, Argument); 2], size: u32) {
     hold(archive.list(over.clone()), &faults);
     hold(archive.greedy(over.clone(), 2, 9), &faults);
-    hold(archive.dated(over.clone(), 2, 9, &[Validity::ALWAYS; 4], Day::FIRST), &faults);
     hold(archive.probing(over.clone(), 2), &faults);
     for rank in EDGES {
         let [first, second] = faults;

@@ -1,6 +1,6 @@
 //! Questions put through the crate: in vectors of its own, and in slices that we lend.
 use crate::questions::{singles, Answer, Question, Span};
-use masuvelior::{Archive, Counted, Day, Ended, Matched, Over, Refusal, Scored, Validity};
+use masuvelior::{Archive, Counted, Ended, Matched, Over, Refusal, Scored};
 
 /// Slices to lend, full of numbers that differ from each other.
 #[derive(Clone, Debug, PartialEq)]
@@ -34,23 +34,6 @@ pub fn over(span: Span) -> Over {
     }
 }
 
-/// The days of a dated search as the crate takes them; none where these numbers are no days, or no two of a document.
-pub fn typed(days: &[u32], day: u32) -> Option<(Vec<Validity>, Day)> {
-    if days.len() % 2 == 1 {
-        return None;
-    }
-    let days = days.chunks(2).map(|two| Validity::try_from((two[0], two[1])).ok());
-    days.collect::<Option<Vec<Validity>>>().zip(Day::new(day).ok())
-}
-
-/// Whether the question can be put through the crate: it has no way to say days that are none.
-pub fn can_be_typed(question: &Question) -> bool {
-    match question {
-        Question::Dated { days, day, .. } => typed(days, *day).is_some(),
-        _ => true,
-    }
-}
-
 /// The question through the crate, in vectors of its own. The work slice is not seen.
 pub fn whole(archive: &Archive, question: &Question) -> Result<Answer, u32> {
     let answer = match question {
@@ -64,10 +47,6 @@ pub fn whole(archive: &Archive, question: &Question) -> Result<Answer, u32> {
         }
         Question::Greedy { span, k, allowance } => {
             archive.greedy(over(*span), *k, *allowance).map(|(found, ended)| with_end(&found, ended))
-        }
-        Question::Dated { span, k, allowance, days, day } => {
-            let (days, day) = typed(days, *day).expect("days that the crate can say");
-            archive.dated(over(*span), *k, *allowance, &days, day).map(|(found, ended)| with_end(&found, ended))
         }
         Question::Weighted { terms, k, allowance } => {
             archive.weighted(terms, *k, *allowance).map(|(found, ended)| with_end(&found, ended))
@@ -102,7 +81,7 @@ pub fn lent(archive: &Archive, question: &Question, scratch: &mut Scratch) -> Re
         }
         Question::Boolean { question } => archive.boolean_into(question, &mut scratch.first).map(singles),
         Question::RarestFirst { terms } => archive.rarest_first_into(terms, eight(&mut scratch.first)).map(singles),
-        Question::List { .. } | Question::Greedy { .. } | Question::Dated { .. } | Question::Probing { .. } => {
+        Question::List { .. } | Question::Greedy { .. } | Question::Probing { .. } => {
             in_documents::<Counted>(&mut scratch.first, |lent| counted(archive, question, lent, work))
         }
         _ => numbers(archive, question),
@@ -165,11 +144,6 @@ fn counted(archive: &Archive, question: &Question, lent: &mut [Counted], work: &
         Question::List { span } => archive.list_into(over(*span), lent).map(listed),
         Question::Greedy { span, k, allowance } => {
             archive.greedy_into(over(*span), *k, *allowance, lent, work).map(|(found, ended)| with_end(found, ended))
-        }
-        Question::Dated { span, k, allowance, days, day } => {
-            let (days, day) = typed(days, *day).expect("days that the crate can say");
-            let found = archive.dated_into(over(*span), *k, *allowance, &days, day, lent, work);
-            found.map(|(found, ended)| with_end(found, ended))
         }
         Question::Probing { span, k } => archive.probing_into(over(*span), *k, lent, work).map(listed),
         _ => unreachable!("not of a range's documents: {question:?}"),

@@ -1,5 +1,5 @@
 //! One question, or one slice of bytes, put in every way and held against the model.
-use crate::ask::{can_be_typed, lent, whole, Scratch};
+use crate::ask::{lent, whole, Scratch};
 use crate::library::{open, Library};
 use crate::questions::{answer, Answer, Lent, Question, ROOM};
 use crate::quick;
@@ -15,7 +15,7 @@ pub type Met = BTreeSet<u32>;
 /// How many numbers an answer has for each document.
 fn numbers_each(question: &Question) -> usize {
     match question {
-        Question::List { .. } | Question::Greedy { .. } | Question::Dated { .. } | Question::Probing { .. } => 3,
+        Question::List { .. } | Question::Greedy { .. } | Question::Probing { .. } => 3,
         Question::Conjunction { .. } | Question::Weighted { .. } => 2,
         _ => 1,
     }
@@ -30,10 +30,9 @@ pub fn needed(library: &Library, question: &Question) -> Lent {
             (numbers_each(question) * documents, 0)
         }
         Question::RarestFirst { .. } => (8, 0),
-        Question::Greedy { k, .. }
-        | Question::Dated { k, .. }
-        | Question::Probing { k, .. }
-        | Question::Weighted { k, .. } => (numbers_each(question) * documents.min(*k as usize), 4 * documents),
+        Question::Greedy { k, .. } | Question::Probing { k, .. } | Question::Weighted { k, .. } => {
+            (numbers_each(question) * documents.min(*k as usize), 4 * documents)
+        }
         _ => (0, 0),
     };
     Lent { first, second }
@@ -48,12 +47,10 @@ fn random_slices(random: &mut Random, library: &Library, question: &Question) ->
     slices
 }
 
-/// Puts a question to an archive of this library in every way; through the crate only where that has words for it.
+/// Puts a question to an archive of this library in every way.
 pub fn compare(archive: &Archive, library: &Library, question: &Question, slices: Lent, met: &mut Met) {
-    if can_be_typed(question) {
-        compare_whole(archive, library, question);
-        compare_lent(archive, library, question, slices);
-    }
+    compare_whole(archive, library, question);
+    compare_lent(archive, library, question, slices);
     let right = answer(library, question, slices);
     for form in FORMS {
         compare_raw(archive.bytes(), form, question, slices, &right);

@@ -1,5 +1,5 @@
 //! What answers list for a document: its tuple, and its numbers in memory.
-use masuvelior::{write, Archive, Counted, Day, Matched, Over::Terms, Refusal, Scored, Validity};
+use masuvelior::{write, Archive, Counted, Matched, Over::Terms, Refusal, Scored};
 use std::mem::{align_of, size_of};
 
 #[test]
@@ -30,8 +30,6 @@ fn by_their_names() -> Result<(), Refusal> {
     assert_eq!(archive.list(Terms(2..=2))?[3], Counted { document: 3, count: 2, place: 3 });
     assert_eq!(archive.probing(Terms(0..=2), 2)?[1], Counted { document: 0, count: 2, place: 2 });
     assert_eq!(archive.greedy(Terms(0..=2), 4, 9)?.0[2], Counted { document: 1, count: 2, place: 1 });
-    let (dated, _) = archive.dated(Terms(0..=2), 4, 9, &[Validity::ALWAYS; 4], Day::LAST)?;
-    assert_eq!(dated[3], Counted { document: 2, count: 1, place: 4 });
     assert_eq!(archive.conjunction(&[0, 2])?[2], Matched { document: 3, count: 3 });
     assert_eq!(archive.weighted(&[0, 2], 4, 3)?.0[3], Scored { document: 2, score: 0 });
     Ok(())

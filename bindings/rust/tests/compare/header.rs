@@ -1,7 +1,7 @@
 //! The declarations in `src/sys.rs` are those of the C header, all of them, and so is what it cites. The header's refusals, its marks, the
-//! room of an order, the limits of days and its version are the crate's.
+//! room of an order and its version are the crate's.
 use crate::sys::MASUVELIOR_MAX_CHOSEN;
-use masuvelior::{marks, Day, Refusal};
+use masuvelior::{marks, Refusal};
 
 const HEADER: &str = include_str!("../../../c/masuvelior.h");
 const DECLARED: &str = include_str!("../../src/sys.rs");
@@ -87,11 +87,11 @@ fn refusals_of_the_header() {
         let name = format!("{refusal:?}");
         let name = upper(name.split('(').next().unwrap());
         let (number, sentence) = (refusal.number(), refusal.sentence());
-        let comma = if number < 20 { "," } else { "" };
+        let comma = if number < 19 { "," } else { "" };
         let line = format!("MASUVELIOR_REFUSED_{name} = {number}{comma} /* {sentence} */");
         assert!(HEADER.contains(&line), "the header has no: {line}");
     }
-    assert_eq!(HEADER.matches("MASUVELIOR_REFUSED_").count(), 20);
+    assert_eq!(HEADER.matches("MASUVELIOR_REFUSED_").count(), 19);
 }
 
 #[test]
@@ -107,14 +107,6 @@ fn marks_of_the_header() {
 #[test]
 fn room_of_an_order() {
     assert!(HEADER.contains(&format!("#define MASUVELIOR_MAX_CHOSEN {MASUVELIOR_MAX_CHOSEN}\n")));
-}
-
-#[test]
-fn days_of_the_header() {
-    for (name, day) in [("FIRST", Day::FIRST), ("LAST", Day::LAST)] {
-        let line = format!("#define MASUVELIOR_{name}_DAY {}\n", day.get());
-        assert!(HEADER.contains(&line), "the header has no: {line}");
-    }
 }
 
 #[test]

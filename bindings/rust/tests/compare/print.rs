@@ -1,7 +1,7 @@
 //! What `docs/FORMAT.md` prints: the refusals' sentences, and the answers for its libraries.
 use masuvelior::marks::{AND, CLOSE, NOT, OPEN, OR};
 use masuvelior::Over::{Entries, Terms};
-use masuvelior::{per_mille, write, Archive, Argument, Day, Ended, Refusal, Validity};
+use masuvelior::{per_mille, write, Archive, Argument, Ended, Refusal};
 
 const FORMAT: &str = include_str!("../../../../docs/FORMAT.md");
 
@@ -19,7 +19,7 @@ fn sentences_are_those_in_print() {
         assert!(FORMAT.contains(&line), "docs/FORMAT.md has no: {line}");
     }
     assert_eq!(Refusal::from_number(0), None);
-    assert_eq!(Refusal::from_number(21), None);
+    assert_eq!(Refusal::from_number(20), None);
     for argument in Argument::ALL {
         assert!(words().contains(argument.sentence()), "docs/FORMAT.md has no: {argument}");
     }
@@ -93,61 +93,6 @@ fn top_k_of_the_small_library() -> Result<(), Refusal> {
         assert_eq!(got.1, ended, "{range:?}, k {k}, allowance {allowance}");
     }
     assert_eq!(archive.probing(Entries(1..4), 3)?, [(0, 1, 2), (1, 1, 1), (3, 1, 3)]);
-    Ok(())
-}
-
-/// The days of some documents, by their numbers.
-fn days(numbers: &[(u32, u32)]) -> Result<Vec<Validity>, Refusal> {
-    numbers.iter().map(|two| Validity::try_from(*two)).collect()
-}
-
-/// The page's days for the small library, and what they give for the entries 1 to 4.
-#[test]
-fn dated_of_the_small_library() -> Result<(), Refusal> {
-    let bytes = write(&[3, 1, 0, 3, 2, 1, 3, 0], &[3, 0, 5], 4)?;
-    let archive = Archive::open(&bytes)?;
-    let days = days(&[(20240301, 21000228), (20000101, 20231231), (20240229, 20240229), (20200101, 21991231)])?;
-    let (done, spent) = (|openings| Ended::Done { openings }, |allowance| Ended::Spent { allowance });
-    let cases: [(_, _, _, &[_], _); 12] = [
-        (20231231, 1, 2, &[(1, 1, 1)], done(2)),
-        (20231231, 2, 3, &[(1, 1, 1), (3, 1, 3)], done(3)),
-        (20231231, 2, 2, &[(1, 1, 1)], spent(2)),
-        (20000101, 1, 2, &[(1, 1, 1)], done(2)),
-        (20000101, 2, 3, &[(1, 1, 1)], done(3)),
-        (20000101, 2, 2, &[(1, 1, 1)], spent(2)),
-        (20000101, 2, 1, &[], spent(1)),
-        (20240229, 2, 3, &[(3, 1, 3)], done(3)),
-        (21000228, 2, 2, &[(0, 1, 2)], spent(2)),
-        (21000301, 1, 3, &[(3, 1, 3)], done(3)),
-        (21000301, 1, 2, &[], spent(2)),
-        (21000301, 0, 0, &[], done(0)),
-    ];
-    for (day, k, allowance, documents, ended) in cases {
-        let got = archive.dated(Entries(1..4), k, allowance, &days, Day::new(day)?)?;
-        assert_eq!(got.0, documents, "{day}, k {k}, allowance {allowance}");
-        assert_eq!(got.1, ended, "{day}, k {k}, allowance {allowance}");
-    }
-    assert_eq!(Day::new(21000229), Err(Refusal::Days));
-    Ok(())
-}
-
-/// Of the page's library L document 4 drops out on 1 March 2024. The nodes with its entries count all the same.
-#[test]
-fn dropped_documents_take_no_opening_away() -> Result<(), Refusal> {
-    let bytes = write(&[4, 0, 2, 4, 1], &[3, 2], 5)?;
-    let archive = Archive::open(&bytes)?;
-    let mut days = days(&[(20000101, 21991231); 5])?;
-    days[4] = Validity::try_from((20240229, 20240229))?;
-    let two = vec![(0, 1, 1).into(), (1, 1, 4).into()];
-    let on = |day, k, allowance| archive.dated(Entries(0..5), k, allowance, &days, day);
-    let (leap, next) = (Day::of(2024, 2, 29)?, Day::of(2024, 3, 1)?);
-    assert_eq!(on(next, 2, 5)?, (two.clone(), Ended::Done { openings: 5 }));
-    for k in [3, 4] {
-        assert_eq!(on(next, k, 5)?, (two.clone(), Ended::Spent { allowance: 5 }));
-        assert_eq!(on(next, k, 9)?.1, Ended::Done { openings: 6 });
-        assert_eq!(on(leap, k, 5)?, archive.greedy(Entries(0..5), k, 5)?);
-    }
-    assert_eq!(on(leap, 2, 9)?.0, [(4, 2, 0), (0, 1, 1)]);
     Ok(())
 }
 

@@ -1,5 +1,4 @@
 //! The model of the questions, after `docs/FORMAT.md`: plain counts over the plain list.
-use crate::dated::{dated, in_force};
 use crate::library::Library;
 use crate::readings::{documents, reading};
 use crate::top_k::{greedy, probing, ranked, top_k_room, with_allowance};
@@ -27,7 +26,6 @@ pub enum Question {
     RangeOfTerms { first: u32, last: u32 },
     RarestFirst { terms: Vec<u32> },
     Greedy { span: Span, k: u32, allowance: u32 },
-    Dated { span: Span, k: u32, allowance: u32, days: Vec<u32>, day: u32 },
     Probing { span: Span, k: u32 },
     Weighted { terms: Vec<u32>, k: u32, allowance: u32 },
 }
@@ -59,8 +57,8 @@ pub struct Part<'a> {
     pub entries: &'a [u32],
 }
 
-/// What the library answers, or the number of the refusal: the lowest that applies, but 18 before 11 and 12, 19 before 11, and 20 after 11 and
-/// before 12.
+/// What the library answers, or the number of the refusal: the lowest that applies, but 18 before 11 and 12, and 19 before
+/// 11.
 pub fn answer(library: &Library, question: &Question, lent: Lent) -> Result<Answer, u32> {
     match question {
         Question::Read => read(library, lent),
@@ -93,12 +91,6 @@ pub fn answer(library: &Library, question: &Question, lent: Lent) -> Result<Answ
             let range = part(library, *span)?;
             top_k_room(library, 3, *k, lent)?;
             Ok(greedy(library, range, *k, *allowance))
-        }
-        Question::Dated { span, k, allowance, days, day } => {
-            let range = part(library, *span)?;
-            let in_force = in_force(library.documents, days, *day)?;
-            top_k_room(library, 3, *k, lent)?;
-            Ok(dated(library, range, *k, *allowance, &in_force))
         }
         Question::Probing { span, k } => {
             let range = part(library, *span)?;

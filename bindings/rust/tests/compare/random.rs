@@ -1,5 +1,4 @@
 //! Random numbers from a fixed seed, and random libraries and questions made of them.
-use crate::calendar;
 use crate::library::Library;
 use crate::questions::{Lent, Question, Span};
 use masuvelior::marks::{AND, CLOSE, NOT, OPEN, OR};
@@ -105,7 +104,7 @@ pub fn question(random: &mut Random, library: &Library) -> Question {
     let n = library.entries.len() as u32;
     let (documents, terms) = (library.documents, library.lengths.len() as u32);
     let span = span(random, library);
-    match random.below(22) {
+    match random.below(20) {
         0 => Question::Read,
         1 => Question::Access { place: random.near(n) },
         2 => Question::Rank { document: random.near(documents), place: random.near(n + 1) },
@@ -119,7 +118,6 @@ pub fn question(random: &mut Random, library: &Library) -> Question {
         12 | 13 => boolean(random, terms),
         14 | 15 => rank_set(random, library),
         16 | 17 => Question::RarestFirst { terms: chosen(random, terms) },
-        18 | 19 => dated(random, library, span),
         _ => Question::Greedy { span, k: random.near(documents + 1), allowance: random.near(2 * documents) },
     }
 }
@@ -150,65 +148,6 @@ fn spoil_set(random: &mut Random, documents: u32, set: &mut Vec<u32>) {
         1 => set.push(random.near(documents)),
         2 => set[place..].reverse(),
         _ => set.extend((documents..).take(64 - place.min(4))),
-    }
-}
-
-/// A dated search: mostly one that is answered.
-pub fn dated(random: &mut Random, library: &Library, span: Span) -> Question {
-    let documents = library.documents;
-    let (mut days, mut day) = days(random, documents);
-    if random.one_in(8) {
-        spoil_days(random, &mut days, &mut day);
-    }
-    Question::Dated { span, k: random.near(documents + 1), allowance: random.near(2 * documents), days, day }
-}
-
-/// The days of so many documents, and an asked one near which many of them begin or end.
-pub fn days(random: &mut Random, documents: u32) -> (Vec<u32>, u32) {
-    let all = calendar::numbers();
-    let last = all.len() as u32 - 1;
-    let anywhere = random.below(last + 1);
-    let asked = *random.pick(&[0, last, 59, 36_583, anywhere]);
-    let mut days = Vec::new();
-    for _ in 0..documents {
-        let mut other = || match random.one_in(2) {
-            true => asked.saturating_sub(random.of_bits(17)),
-            false => last.min(asked + random.of_bits(17)),
-        };
-        let (x, y) = (other(), other());
-        days.extend([x.min(y), x.max(y)].map(|day| all[day as usize]));
-    }
-    (days, all[asked as usize])
-}
-
-/// Numbers that are no days.
-pub const NO_DAYS: [u32; 14] = [
-    0,
-    1,
-    u32::MAX,
-    19991231,
-    22000101,
-    21000229,
-    20010229,
-    20240230,
-    20260431,
-    20261131,
-    20261301,
-    20260001,
-    20260100,
-    20260132,
-];
-
-/// Makes the list shorter or longer, puts what is no day into it or asks for such, or changes two days with each other.
-fn spoil_days(random: &mut Random, days: &mut Vec<u32>, day: &mut u32) {
-    let place = random.below(days.len() as u32) as usize;
-    match random.below(6) {
-        0 => days.truncate(place),
-        1 => days.push(*day),
-        2 => days.extend([*day, *day]),
-        3 => days[place] = *random.pick(&NO_DAYS),
-        4 => *day = *random.pick(&NO_DAYS),
-        _ => days.swap(place, place ^ 1),
     }
 }
 

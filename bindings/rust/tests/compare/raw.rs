@@ -42,7 +42,7 @@ fn ends(span: Span) -> (u32, u32) {
     }
 }
 
-/// The terms, documents or days, and behind them numbers that are none: those past the length are not to be looked at.
+/// The terms or documents, and behind them numbers that are none: those past the length are not to be looked at.
 fn with_more(numbers: &[u32]) -> Vec<u32> {
     [numbers, &[u32::MAX; 8]].concat()
 }
@@ -62,7 +62,6 @@ pub fn ask(bytes: &[u8], form: Form, question: &Question, scratch: &mut Scratch,
         Question::Read | Question::Greedy { .. } | Question::Probing { .. } | Question::Weighted { .. } => {
             two_slices(bytes, form, question, scratch, out)
         }
-        Question::Dated { .. } => dated(bytes, form, question, scratch, out),
         _ => numbers(bytes, form, question, out),
     }
 }
@@ -165,39 +164,5 @@ fn two_slices(bytes: &[u8], form: Form, question: &Question, scratch: &mut Scrat
             }
             _ => unreachable!("not of two slices: {question:?}"),
         }
-    }
-}
-
-fn dated(bytes: &[u8], form: Form, question: &Question, scratch: &mut Scratch, out: &mut [u32; 3]) -> u32 {
-    let Question::Dated { span, k, allowance, days, day } = question else {
-        unreachable!("not of days: {question:?}");
-    };
-    let (archive, length) = (bytes.as_ptr(), bytes.len());
-    let (first, first_length) = (scratch.first.as_mut_ptr(), scratch.first.len());
-    let (second, second_length) = (scratch.second.as_mut_ptr(), scratch.second.len());
-    let [x, y, z] = out;
-    let ask = function!(form, *span; masuvelior_dated_entries, masuvelior_opened_dated_entries, masuvelior_dated_terms, masuvelior_opened_dated_terms);
-    let ((a, b), more) = (ends(*span), with_more(days));
-    let (pairs, size) = (more.as_ptr(), days.len());
-    // SAFETY: POINTERS, WRITTEN and CONST by the references; OPENED is kept by our caller.
-    unsafe {
-        ask(
-            archive,
-            length,
-            a,
-            b,
-            *k,
-            *allowance,
-            pairs,
-            size,
-            *day,
-            first,
-            first_length,
-            second,
-            second_length,
-            x,
-            y,
-            z,
-        )
     }
 }

@@ -91,23 +91,15 @@ fn of_terms(terms: &[u32], library: &Library, all: &mut Vec<Question>) {
     }
 }
 
-/// The days of so many documents: of three that follow each other, two are in force on 29 February 2024, and one was up to the day before.
-fn every_third_lapsed(documents: u32) -> Vec<u32> {
-    let last = [20240229, 20240228, 21991231];
-    (0..documents as usize).flat_map(|document| [20000101, last[document % 3]]).collect()
-}
-
 /// Every question of a range.
 fn of_range(span: Span, library: &Library, all: &mut Vec<Question>) {
     all.push(Question::List { span });
     let n = library.entries.len() as u32;
     all.extend(around(n).map(|r| Question::Quantile { span, r }));
-    let days = every_third_lapsed(library.documents);
     for k in [0, 1, 2, 4, library.documents, u32::MAX] {
         all.push(Question::Probing { span, k });
         for allowance in [0, 1, 2, 3, 5, 9, u32::MAX] {
             all.push(Question::Greedy { span, k, allowance });
-            all.push(Question::Dated { span, k, allowance, days: days.clone(), day: 20240229 });
         }
     }
 }
@@ -159,7 +151,7 @@ fn random_questions_of_small_libraries() {
     }
     assert_met(&met, 0..=0);
     assert_met(&met, 10..=13);
-    assert_met(&met, 18..=20);
+    assert_met(&met, 18..=19);
 }
 
 /// n at the edges of bytes and samples, N at powers of two and beside them.

@@ -9,7 +9,7 @@ pub fn top_k_room(library: &Library, numbers: usize, k: u32, lent: Lent) -> Resu
 }
 
 /// After top-k the first 4 × N numbers of the work slice are 0.
-pub fn with_work(found: Answer, library: &Library) -> Answer {
+fn with_work(found: Answer, library: &Library) -> Answer {
     Answer { second: vec![0; 4 * library.documents as usize], ..found }
 }
 
@@ -26,7 +26,7 @@ pub fn ranked(mut ranking: Pairs, k: u32) -> Pairs {
 }
 
 /// The nodes of two or more numbers: start and count of each.
-pub fn nodes(range: &[u32], documents: u32) -> Pairs {
+fn nodes(range: &[u32], documents: u32) -> Pairs {
     let h = height(documents);
     let counts = counts(range, 1 << h);
     let mut nodes = Vec::new();
@@ -40,7 +40,7 @@ pub fn nodes(range: &[u32], documents: u32) -> Pairs {
 }
 
 /// The need of a front part of the full list.
-pub fn need(nodes: &[(u32, u32)], front: &[(u32, u32)]) -> u32 {
+fn need(nodes: &[(u32, u32)], front: &[(u32, u32)]) -> u32 {
     let Some((last, last_count)) = front.last() else {
         return 0;
     };

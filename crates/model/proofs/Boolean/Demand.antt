@@ -22,7 +22,7 @@ use Rattle.model.specs.Reading.{reading}
 use Rattle.model.specs.Boolean.{entered, matches, documents_of, words_in, or_unread, documents_into, boolean_result}
 use Rattle.model.specs.BooleanDemand.{refused_as, BooleanDemand}
 use Rattle.model.proofs.Lists.{tally-keep}
-use Rattle.model.proofs.Sorting.{every-cons, sorted-keep}
+use Rattle.model.proofs.Sorting.{every_cons, sorted-keep}
 use Rattle.model.proofs.Boolean.Theorem.{found, only, meaning, unread_refused, refused_unread}
 
 -- ---- the documents that match
@@ -65,7 +65,7 @@ up_from-sorted s (suc n) = (above s (suc s) n (omega arith), up_from-sorted (suc
   where
     above : (v s n : ℕ) → v < s → Every (ltb v) (up_from s n)
     above v s zero h = refl
-    above v s (suc n) h = every-cons (ltb v) s (up_from (suc s) n) (lt-ltb v s h) (above v (suc s) n (omega arith))
+    above v s (suc n) h = every_cons (ltb v) s (up_from (suc s) n) (lt-ltb v s h) (above v (suc s) n (omega arith))
 
 module _ (lib : Library) (e : Expression) where
   abbrev matching : ℕ → Bool

@@ -13,7 +13,7 @@ use Rattle.bits.specs.Sequences.{all, up_from, below}
 use Rattle.bits.specs.Bits.{sum, bits_of, pack, unused_clear, number_at, samples_of, samples_right}
 use Rattle.bits.proofs.Tests.{both_and}
 use Rattle.bits.proofs.Tally.{all-up_from, length-up_from, get_d_map-below}
-use Rattle.bits.proofs.Pack.{bits_of-pack, unused-pack}
+use Rattle.bits.proofs.Pack.{bits_of-pack, unused_pack}
 use Rattle.bits.proofs.LittleEndian.{samples_right_lem}
 use Rattle.model.specs.Lists.{any, Within}
 use Rattle.model.specs.Outcome.{answered, refuse}
@@ -116,7 +116,7 @@ module _ (lib : Library) (v : Valid lib) where
       all-up_from (λ j. unused_clear (length lib.entries) (row_at bytes s j)) 0 h
       (λ j a b.
       let l : j < h = omega arith in
-      ap₂ unused_clear (sym (row-size lib v j l)) (row-at lib v j l) ∙ unused-pack (row h j lib.entries) (small j))
+      ap₂ unused_clear (sym (row-size lib v j l)) (row-at lib v j l) ∙ unused_pack (row h j lib.entries) (small j))
 
   entries_back : entries_at bytes s ≡ lib.entries
   unfolding entries_at

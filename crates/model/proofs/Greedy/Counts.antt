@@ -18,7 +18,7 @@ use Rattle.model.specs.TopK.{Node, node, count_in, inner_nodes, ranking, full_li
 use Rattle.model.specs.Search.{Waiting, begin, occupied, wait}
 use Rattle.model.proofs.Lists.{keep-map, tally-keep, tally_within}
 use Rattle.model.proofs.Sorting.{every_take}
-use Rattle.model.proofs.Ranking.{ranking_same, every-last}
+use Rattle.model.proofs.Ranking.{ranking_same, every_last}
 use Rattle.model.proofs.Greedy.Abstract.{Counted, counted-of-sum, need_by, covered_by, answer_by, ranking_of, needed_for, need_for, topKOf}
 use Rattle.model.proofs.Greedy.Answers.{answer_by_same}
 
@@ -86,7 +86,7 @@ begin-root h xs w =
 -- ---- the abstract answer
 
 module _ (xs : List ℕ) where
-  pub ranking_of-ranking : (N : ℕ) → ranking_of (count_in xs) (occupied xs) N ≡ ranking (listing N xs)
+  ranking_of-ranking : (N : ℕ) → ranking_of (count_in xs) (occupied xs) N ≡ ranking (listing N xs)
   ranking_of-ranking N =
       ap ranking
       (ap₂ (λ (f : ℕ → Pair) (p : ℕ → Bool). map f (keep p (below N)))
@@ -94,7 +94,7 @@ module _ (xs : List ℕ) where
       ∙ sym (keep-map present (pair_of xs) (below N)))
 
   -- of the nodes whose count is not below that of a present pair all live
-  pub need_for-need_of : (h : ℕ) (p : Pair) → present p ≡ true → need_for (count_in xs) (occupied xs) h p ≡ need_of h xs p
+  need_for-need_of : (h : ℕ) (p : Pair) → present p ≡ true → need_for (count_in xs) (occupied xs) h p ≡ need_of h xs p
   need_for-need_of h p e = tally_same (needed_for (count_in xs) (occupied xs) p) (needed xs p) (λ n. go n (look (occupied xs n))) (inner_nodes h)
     where
       go : (n : Node) → (occupied xs n ≡ true) ⊎ (occupied xs n ≡ false) → (occupied xs n && needed xs p n) ≡ needed xs p n
@@ -104,12 +104,12 @@ module _ (xs : List ℕ) where
           let z = ltb-false 0 (count_in xs n) f in
           rw (f, le-ltb p.count (count_in xs n) (omega arith), ne_eqb (count_in xs n) p.count (omega arith))
 
-  pub need-present : (h : ℕ) (ps : List Pair) → Every present ps → need_by (need_for (count_in xs) (occupied xs) h) ps ≡ need h xs ps
+  need-present : (h : ℕ) (ps : List Pair) → Every present ps → need_by (need_for (count_in xs) (occupied xs) h) ps ≡ need h xs ps
   need-present h [] a = refl
-  need-present h (p ∷ ps) a = need_for-need_of h (last p ps) (every-last present p ps a)
+  need-present h (p ∷ ps) a = need_for-need_of h (last p ps) (every_last present p ps a)
 
-  pub every-present : (N k : ℕ) → Every present (full_list N k xs)
-  every-present N k =
+  every_present : (N k : ℕ) → Every present (full_list N k xs)
+  every_present N k =
       every_take present k (ranking (listing N xs))
       (ranking_same (listing N xs) (λ p. not (present p))
       ∙ tally-keep (λ p. not (present p)) present (map (pair_of xs) (below N))
@@ -134,5 +134,5 @@ module _ (xs : List ℕ) where
   topKOf-top_k h N k allowance =
       ap (λ (r : List Pair). answer_by (need_by (need_for (count_in xs) (occupied xs) h)) allowance (take k r)) (ranking_of-ranking N)
       ∙ answer_by_same (need_by (need_for (count_in xs) (occupied xs) h)) (need h xs) allowance (full_list N k xs)
-      (λ m l. need-present h (take m (full_list N k xs)) (every_take present m (full_list N k xs) (every-present N k)))
+      (λ m l. need-present h (take m (full_list N k xs)) (every_take present m (full_list N k xs) (every_present N k)))
       ∙ sym (top_k-answer_by h N k allowance)

@@ -14,7 +14,7 @@ use Rattle.model.specs.TopK.{Node, node, start}
 use Rattle.model.specs.Search.{prior}
 use Rattle.model.specs.Lists.{Every, Sorted, insert_by}
 use Rattle.model.specs.Frontier.{waiting, nodes, under, all_under, place, ahead_node, Ready}
-use Rattle.model.proofs.Sorting.{every_tail, every-cons, insert_same, insert-sorted}
+use Rattle.model.proofs.Sorting.{every_tail, every_cons, insert_same, insert-sorted}
 use Rattle.model.proofs.Priority.{Ahead, true_ahead, prior_true, prior_false}
 use Rattle.model.proofs.Greedy.Abstract.{Counted}
 use Rattle.model.proofs.Greedy.Nodes.{living, leafly, leaf_once, first_leaf, start_le_place, place_le_start, node_trans, dead_under}
@@ -81,7 +81,7 @@ module _ (count : Node → ℕ) (lives : Node → Bool) where
   join_alive n ms h = go (look (lives n))
     where
       go : (lives n ≡ true) ⊎ (lives n ≡ false) → Every lives (cond (lives n) (insert_by (prior_node count) n ms) ms)
-      go (inl e) = rw e (insert_same (prior_node count) n ms (λ y. not (lives y)) ∙ every-cons lives n ms e h)
+      go (inl e) = rw e (insert_same (prior_node count) n ms (λ y. not (lives y)) ∙ every_cons lives n ms e h)
       go (inr e) = rw e h
 
   -- ---- sorted

@@ -8,17 +8,15 @@ use mathlib.Core.Bool.{Bool, true, false, cond}
 use lib.ListN.{length, take, length-take, length-map}
 use lib.Dec.{leb, leb-zero, leb-suc-zero, leb-suc-suc}
 use Rattle.bits.specs.Sequences.{tally}
-use Rattle.model.specs.Lists.{keep, any, insert_by}
+use Rattle.model.specs.Lists.{any, insert_by}
 use Rattle.model.specs.Queries.{Pair}
 use Rattle.model.specs.TopK.{Node, node, Answer, done, spent}
-use Rattle.model.specs.Search.{Waiting, insert_waiting, Move, names, opens, finds_spent, is_opening, is_spent, named_in, answer_of, listable, wait, wait_halves, moves_from}
+use Rattle.model.specs.Search.{Waiting, insert_waiting, Move, names, opens, finds_spent, is_opening, is_spent, named_in, answer_of, wait, wait_halves, moves_from}
 use Rattle.model.specs.Frontier.{waiting}
-use Rattle.model.proofs.Sorting.{same_length, insert_same}
 use Rattle.model.proofs.Greedy.Abstract.{leaf_pair, covered_by, answer_by}
 use Rattle.model.proofs.Greedy.Nodes.{documents}
 use Rattle.model.proofs.Greedy.Frontier.{prior_node, join, halves}
 use Rattle.model.proofs.Greedy.Visits.{visits, Ends}
-use Rattle.model.proofs.Greedy.Shown.{reach}
 
 -- ---- the frontier is the list of nodes with their counts
 
@@ -57,89 +55,23 @@ moves_along count (suc k) left (node zero q ∷ ns) = names (leaf_pair count q) 
 moves_along count (suc k) zero (node (suc l) q ∷ ns) = finds_spent ∷ []
 moves_along count (suc k) (suc left) (node (suc l) q ∷ ns) = opens (node (suc l) q) ∷ moves_along count (suc k) left ns
 
--- the documents of a list of nodes, with their counts
-abbrev pub pairs_in : (Node → ℕ) → List Node → List Pair
-pairs_in count ns = map (leaf_pair count) (documents ns)
-
--- ---- how many nodes wait
-
 module _ (count : Node → ℕ) (lives : Node → Bool) where
-  pub length-join : (n : Node) (ms : List Node) → length (join count lives n ms) ≤ suc (length ms)
-  length-join n ms = go (lives n)
-    where
-      go : (b : Bool) → length (cond b (insert_by (prior_node count) n ms) ms) ≤ suc (length ms)
-      go true = omega (arith, same_length (insert_by (prior_node count) n ms) (n ∷ ms) (insert_same (prior_node count) n ms))
-      go false = omega arith
-
-  -- an opening adds at most one
-  length-halves : (l q : ℕ) (ms : List Node) → length (halves count lives l q ms) ≤ suc (suc (length ms))
-  length-halves l q ms =
-      omega (arith, length-join (node l (2 * q + 1)) ms, length-join (node l (2 * q)) (join count lives (node l (2 * q + 1)) ms))
-
--- ---- the moves of a search are those along the nodes that it visits, up to the k-th document that is shown
-
-reach-zero : (s : Pair → Bool) (ps : List Pair) → reach s ps 0 ≡ 0
-reach-zero s [] = refl
-reach-zero s (p ∷ ps) = refl
-
-module _ (shown : ℕ → Bool) (count : Node → ℕ) where
-  -- before an inner node some document is still to come
-  along_stop : (k l q : ℕ) (ns : List Node) (ps : List Pair) → 0 < length ps
-      → finds_spent ∷ [] ≡ moves_along count (reach (listable shown) ps (suc k)) zero (node (suc l) q ∷ ns)
-  along_stop k l q ns [] h = absurd (omega arith)
-  along_stop k l q ns (p ∷ ps) h = refl
-
-  along_open : (k left l q : ℕ) (ns : List Node) (ps : List Pair) → 0 < length ps
-      → opens (node (suc l) q) ∷ moves_along count (reach (listable shown) ps (suc k)) left ns
-      ≡ moves_along count (reach (listable shown) ps (suc k)) (suc left) (node (suc l) q ∷ ns)
-  along_open k left l q ns [] h = absurd (omega arith)
-  along_open k left l q ns (p ∷ ps) h = refl
-
-  module _ (lives : Node → Bool) where
-    -- each move takes a node from those that wait, or uses up the allowance and adds one, so that 2 * left + length ms moves are enough
-    pub moves-visits : (f g k left : ℕ) (ms : List Node) → 2 * left + length ms ≤ f → 2 * left + length ms ≤ g → Ends (visits count lives g ms)
-        → moves_from shown count lives f k left (map (waiting count) ms)
-        ≡ moves_along count (reach (listable shown) (pairs_in count (visits count lives g ms)) k) left (visits count lives g ms)
-    moves-visits zero zero k left ms a b e = refl
-    moves-visits zero (suc g) k left [] a b e = refl
-    moves-visits zero (suc g) k left (m ∷ ms) a b e = absurd (omega arith)
-    moves-visits (suc f) g zero left ms a b e = rw (reach-zero (listable shown) (pairs_in count (visits count lives g ms)))
-    moves-visits (suc f) zero (suc k) left [] a b e = refl
-    moves-visits (suc f) (suc g) (suc k) left [] a b e = refl
-    moves-visits (suc f) zero (suc k) left (m ∷ ms) a b e = absurd (omega arith)
-    moves-visits (suc f) (suc g) (suc k) left (node zero q ∷ ms) a b e =
-        ap (λ (r : List Move). names (leaf_pair count q) ∷ r)
-        (moves-visits f g (cond (shown q) k (suc k)) left ms (omega arith) (omega arith) e)
-    moves-visits (suc f) (suc g) (suc k) zero (node (suc l) q ∷ ms) a b e =
-        let ns = visits count lives g (halves count lives l q ms) in
-        along_stop k l q ns (pairs_in count ns) (let d = e.0 in omega (arith, length-map (documents ns) (leaf_pair count)))
-    moves-visits (suc f) (suc g) (suc k) (suc left) (node (suc l) q ∷ ms) a b e =
-        let ns = visits count lives g (halves count lives l q ms) in
-        let o : suc left - 1 ≡ left = omega arith in
-        ap (λ (r : List Move). opens (node (suc l) q) ∷ r)
-        (ap₂ (moves_from shown count lives f (suc k)) o (wait-halves count lives l q ms)
-        ∙ moves-visits f g (suc k) left (halves count lives l q ms) (omega (arith, length-halves count lives l q ms))
-        (omega (arith, length-halves count lives l q ms)) e.1)
-        ∙ along_open k left l q ns (pairs_in count ns) (let d = e.0 in omega (arith, length-map (documents ns) (leaf_pair count)))
-
-    -- no more than k documents that are shown are named
-    pub few_named : (f k left : ℕ) (ms : List Node)
-        → length (keep (listable shown) (named_in (moves_from shown count lives f k left (map (waiting count) ms)))) ≤ k
-    few_named zero k left ms = omega arith
-    few_named (suc f) zero left ms = omega arith
-    few_named (suc f) (suc k) left [] = omega arith
-    few_named (suc f) (suc k) left (node zero q ∷ ms) = go (shown q) (λ j. few_named f j left ms)
-      where
-        rest : ℕ → List Pair
-        rest j = keep (listable shown) (named_in (moves_from shown count lives f j left (map (waiting count) ms)))
-
-        go : (b : Bool) → ((j : ℕ) → length (rest j) ≤ j)
-            → length (cond b (leaf_pair count q ∷ rest (cond b k (suc k))) (rest (cond b k (suc k)))) ≤ suc k
-        go true i = omega (arith, i k)
-        go false i = i (suc k)
-    few_named (suc f) (suc k) zero (node (suc l) q ∷ ms) = omega arith
-    few_named (suc f) (suc k) (suc left) (node (suc l) q ∷ ms) =
-        rw (wait-halves count lives l q ms) (few_named f (suc k) (suc left - 1) (halves count lives l q ms))
+  -- each move names one of the k documents or uses up the allowance, so that k + left moves are enough
+  pub moves_visits : (f g k left : ℕ) (ms : List Node) → k + left ≤ f → k + left ≤ g
+      → moves_from count lives f k left (map (waiting count) ms) ≡ moves_along count k left (visits count lives g ms)
+  moves_visits zero g zero left ms a b = refl
+  moves_visits (suc f) g zero left ms a b = refl
+  moves_visits zero g (suc k) left ms a b = absurd (omega arith)
+  moves_visits (suc f) zero (suc k) left ms a b = absurd (omega arith)
+  moves_visits (suc f) (suc g) (suc k) left [] a b = refl
+  moves_visits (suc f) (suc g) (suc k) left (node zero q ∷ ms) a b =
+      ap (λ (r : List Move). names (leaf_pair count q) ∷ r) (moves_visits f g k left ms (omega arith) (omega arith))
+  moves_visits (suc f) (suc g) (suc k) zero (node (suc l) q ∷ ms) a b = refl
+  moves_visits (suc f) (suc g) (suc k) (suc left) (node (suc l) q ∷ ms) a b =
+      let e : suc left - 1 ≡ left = omega arith in
+      ap (λ (r : List Move). opens (node (suc l) q) ∷ r)
+      (ap₂ (moves_from count lives f (suc k)) e (wait-halves count lives l q ms)
+      ∙ moves_visits f g (suc k) left (halves count lives l q ms) (omega arith) (omega arith))
 
 -- ---- the answer read off the moves, by the first of them
 
@@ -232,20 +164,24 @@ answer_stop l q ns [] h = absurd (omega arith)
 answer_stop l q ns (p ∷ ps) h =
     rw (leb-suc-zero (toll ns (suc (length ps))), covered_stop l q ns p ps (suc (length ps)))
 
+-- the documents of a list of nodes, with their counts
+abbrev pub pairs_in : (Node → ℕ) → List Node → List Pair
+pairs_in count ns = map (leaf_pair count) (documents ns)
+
 some : (count : Node → ℕ) (k : ℕ) (ns : List Node) → 0 < length (documents ns) → 0 < length (take (suc k) (pairs_in count ns))
 some count k ns h = omega (arith, length-take (suc k) (pairs_in count ns), length-map (documents ns) (leaf_pair count))
 
-pub answer-moves : (count : Node → ℕ) (k left : ℕ) (ns : List Node) → Ends ns
+pub answer_moves : (count : Node → ℕ) (k left : ℕ) (ns : List Node) → Ends ns
     → answer_of (moves_along count k left ns) ≡ answer_by (toll_of ns) left (take k (pairs_in count ns))
-answer-moves count zero left ns e = rw (leb-zero left)
-answer-moves count (suc k) left [] e = rw (leb-zero left)
-answer-moves count (suc k) left (node zero q ∷ ns) e =
+answer_moves count zero left ns e = rw (leb-zero left)
+answer_moves count (suc k) left [] e = rw (leb-zero left)
+answer_moves count (suc k) left (node zero q ∷ ns) e =
     answer_names (leaf_pair count q) (moves_along count k left ns)
-    ∙ ap (named (leaf_pair count q)) (answer-moves count k left ns e)
+    ∙ ap (named (leaf_pair count q)) (answer_moves count k left ns e)
     ∙ sym (answer_leaf q ns left (leaf_pair count q) (take k (pairs_in count ns)))
-answer-moves count (suc k) zero (node (suc l) q ∷ ns) e =
+answer_moves count (suc k) zero (node (suc l) q ∷ ns) e =
     sym (answer_stop l q ns (take (suc k) (pairs_in count ns)) (some count k ns e.0))
-answer-moves count (suc k) (suc left) (node (suc l) q ∷ ns) e =
+answer_moves count (suc k) (suc left) (node (suc l) q ∷ ns) e =
     answer_opens (node (suc l) q) (moves_along count (suc k) left ns)
-    ∙ ap opened (answer-moves count (suc k) left ns e.1)
+    ∙ ap opened (answer_moves count (suc k) left ns e.1)
     ∙ sym (answer_open l q ns left (take (suc k) (pairs_in count ns)) (some count k ns e.0))

@@ -17,9 +17,9 @@ use Rattle.model.specs.TopK.{Node, node, start, inner_nodes, last}
 use Rattle.model.specs.Lists.{Every, Sorted}
 use Rattle.model.specs.Frontier.{nodes, place, ahead_node, ahead_of}
 use Rattle.model.proofs.Lists.{map-append}
-use Rattle.model.proofs.Sorting.{every_head, every_tail, every-cons, every_take}
+use Rattle.model.proofs.Sorting.{every_head, every_tail, every_cons, every_take}
 use Rattle.model.proofs.Priority.{Ahead, ahead_true, true_ahead}
-use Rattle.model.proofs.Ranking.{every-last}
+use Rattle.model.proofs.Ranking.{every_last}
 use Rattle.model.proofs.Greedy.Abstract.{leaf_pair, need_by, needed_for, need_for}
 use Rattle.model.proofs.Greedy.Nodes.{living}
 use Rattle.model.proofs.Greedy.Moves.{toll_of, pairs_in}
@@ -80,7 +80,7 @@ tally_inner p (suc l) q =
       tally_inner p l (2 * q + 1),
     )
 
-pub tally-inner_nodes : (p : Node → Bool) (h : ℕ) → tally p (inner_nodes h) ≡ tally (innerly p) (nodes h 0)
+tally-inner_nodes : (p : Node → Bool) (h : ℕ) → tally p (inner_nodes h) ≡ tally (innerly p) (nodes h 0)
 tally-inner_nodes p h =
     ap (λ (f : ℕ → List Node). tally p (concat (map f (below h))))
     (fun_ext (λ (j : ℕ). ap (λ (s : ℕ). map (node (h - j)) (up_from s (2 ^ j))) (sym (zero-mul (2 ^ j)))))
@@ -127,12 +127,12 @@ module _ (count : Node → ℕ) where
       go (inr f) = rw f
 
   -- what holds of leaves among the nodes, of their documents
-  pub every-pair : (p : Node → Bool) (r : Pair → Bool) → ((d : ℕ) → p (node zero d) ≡ true → r (leaf_pair count d) ≡ true)
+  pub every_pair : (p : Node → Bool) (r : Pair → Bool) → ((d : ℕ) → p (node zero d) ≡ true → r (leaf_pair count d) ≡ true)
       → (ns : List Node) → Every p ns → Every r (pairs_in count ns)
-  every-pair p r f [] a = refl
-  every-pair p r f (node zero d ∷ ns) a =
-      every-cons r (leaf_pair count d) (pairs_in count ns) (f d (every_head p (node zero d) ns a)) (every-pair p r f ns (every_tail p (node zero d) ns a))
-  every-pair p r f (node (suc l) q ∷ ns) a = every-pair p r f ns (every_tail p (node (suc l) q) ns a)
+  every_pair p r f [] a = refl
+  every_pair p r f (node zero d ∷ ns) a =
+      every_cons r (leaf_pair count d) (pairs_in count ns) (f d (every_head p (node zero d) ns a)) (every_pair p r f ns (every_tail p (node zero d) ns a))
+  every_pair p r f (node (suc l) q ∷ ns) a = every_pair p r f ns (every_tail p (node (suc l) q) ns a)
 
   -- the need of a front part, along a sorted list of nodes
   abbrev along : List Node → Pair → ℕ
@@ -152,12 +152,12 @@ module _ (count : Node → ℕ) where
   need-toll (node (suc l) q ∷ ns) s m =
       go (take m (pairs_in count ns)) (need-toll ns s.1 m)
       (every_take (λ p. wanted p (node (suc l) q)) m (pairs_in count ns)
-      (every-pair (ahead_node count (node (suc l) q)) (λ p. wanted p (node (suc l) q)) (ahead-wanted l q) ns s.0))
+      (every_pair (ahead_node count (node (suc l) q)) (λ p. wanted p (node (suc l) q)) (ahead-wanted l q) ns s.0))
     where
       go : (ps : List Pair) → need_by (along ns) ps ≡ toll_of ns ps → Every (λ p. wanted p (node (suc l) q)) ps
           → need_by (along (node (suc l) q ∷ ns)) ps ≡ toll_of (node (suc l) q ∷ ns) ps
       go [] i a = refl
-      go (p ∷ ps) i a = rw (every-last (λ p. wanted p (node (suc l) q)) p ps a) (omega arith)
+      go (p ∷ ps) i a = rw (every_last (λ p. wanted p (node (suc l) q)) p ps a) (omega arith)
 
   -- the need counts the nodes that live and are wanted
   pub need-living : (lives : Node → Bool) (h : ℕ) (p : Pair) → need_for count lives h p ≡ tally (living lives (innerly (wanted p))) (nodes h 0)

@@ -15,7 +15,7 @@ use Rattle.bits.proofs.Tally.{tally-append, tally_same, up_from-append}
 use Rattle.model.specs.TopK.{Node, node, start}
 use Rattle.model.specs.Lists.{Every}
 use Rattle.model.specs.Frontier.{nodes, all_under, place, ahead_node, under}
-use Rattle.model.proofs.Sorting.{every_head, every_tail, every-cons, every_append}
+use Rattle.model.proofs.Sorting.{every_head, every_tail, every_cons, every_append}
 use Rattle.model.proofs.Priority.{ahead_true, true_ahead, ahead_trans, ahead-of_le}
 use Rattle.model.proofs.Greedy.Abstract.{Counted}
 
@@ -128,9 +128,9 @@ node_ahead count n m h k = true_ahead (count n) (place n) (count m) (place m) (a
 module _ (count : Node → ℕ) (lives : Node → Bool) (counted : Counted count lives) where
   -- what is ahead of a node is ahead of all under it
   pub ahead-under : (n : Node) (l q : ℕ) → ahead_node count n (node l q) ≡ true → Every (ahead_node count n) (nodes l q)
-  ahead-under n zero q h = every-cons (ahead_node count n) (node zero q) [] h refl
+  ahead-under n zero q h = every_cons (ahead_node count n) (node zero q) [] h refl
   ahead-under n (suc l) q h =
-      every-cons (ahead_node count n) (node (suc l) q) (nodes l (2 * q) ++ nodes l (2 * q + 1)) h
+      every_cons (ahead_node count n) (node (suc l) q) (nodes l (2 * q) ++ nodes l (2 * q + 1)) h
       (every_append (ahead_node count n) (nodes l (2 * q)) (nodes l (2 * q + 1))
       (ahead-under n l (2 * q) (node_trans count n (node (suc l) q) (node l (2 * q)) h lower))
       (ahead-under n l (2 * q + 1) (node_trans count n (node (suc l) q) (node l (2 * q + 1)) h upper)))

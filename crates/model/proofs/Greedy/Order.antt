@@ -21,7 +21,7 @@ use Rattle.model.proofs.Greedy.Nodes.{length-nodes, living, leafly, documents, t
 use Rattle.model.proofs.Greedy.Frontier.{join, ready_root, join-living}
 use Rattle.model.proofs.Greedy.Visits.{visits, size, Ends, visits_same, visits-sorted, visits-ends}
 use Rattle.model.proofs.Greedy.Moves.{toll_of, pairs_in}
-use Rattle.model.proofs.Greedy.Need.{every-pair, need-toll, innerly, wanted, need-living}
+use Rattle.model.proofs.Greedy.Need.{every_pair, need-toll, innerly, wanted, need-living}
 
 abbrev pub root : (Node → ℕ) → (Node → Bool) → ℕ → List Node
 root count lives h = join count lives (node h 0) []
@@ -45,7 +45,7 @@ leaf_pair_lem count d e h =
 pairs-sorted : (count : Node → ℕ) (ns : List Node) → Sorted (ahead_node count) ns → Sorted ahead_pair (pairs_in count ns)
 pairs-sorted count [] s = tt
 pairs-sorted count (node zero d ∷ ns) s =
-    (every-pair count (ahead_node count (node zero d)) (ahead_pair (leaf_pair count d)) (leaf_pair_lem count d) ns s.0, pairs-sorted count ns s.1)
+    (every_pair count (ahead_node count (node zero d)) (ahead_pair (leaf_pair count d)) (leaf_pair_lem count d) ns s.0, pairs-sorted count ns s.1)
 pairs-sorted count (node (suc l) q ∷ ns) s = pairs-sorted count ns s.1
 
 module _ (count : Node → ℕ) (lives : Node → Bool) (counted : Counted count lives) (h f : ℕ) where
@@ -64,7 +64,7 @@ module _ (count : Node → ℕ) (lives : Node → Bool) (counted : Counted count
   pub order-ends : Ends (order count lives h f)
   order-ends = visits-ends count lives counted h (f + 2 ^ suc h) (root count lives h) (ready_root count lives h) size-root
 
-  pub order_same : (p : Node → Bool) → tally p (order count lives h f) ≡ tally (living lives p) (nodes h 0)
+  order_same : (p : Node → Bool) → tally p (order count lives h f) ≡ tally (living lives p) (nodes h 0)
   order_same p =
       omega (
         arith,

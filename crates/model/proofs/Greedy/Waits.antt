@@ -15,7 +15,7 @@ use Rattle.model.specs.Lists.{Every}
 use Rattle.model.specs.TopK.{Node, node, start}
 use Rattle.model.specs.Search.{Waiting, wait, wait_halves, move_of, prior}
 use Rattle.model.specs.Frontier.{waiting, nodes, all_under, Ready, blocks, Waits, ahead_node, under, place}
-use Rattle.model.proofs.Sorting.{every_head, every_tail, every-cons}
+use Rattle.model.proofs.Sorting.{every_head, every_tail, every_cons}
 use Rattle.model.proofs.Greedy.Abstract.{Counted}
 use Rattle.model.proofs.Greedy.Nodes.{living, leafly, leaf_under, living-documents, start_leaf, start_le_place, place_le_start}
 use Rattle.model.proofs.Greedy.Frontier.{join, halves, ready_root, ready_name, ready_open, ready_apart, prior_node}
@@ -59,7 +59,7 @@ module _ (count : Node → ℕ) (n : Node) where
   prior-all [] a u = refl
   prior-all (m ∷ ms) a u =
       let apart = tally-append (leafly (eqb (start n))) (under m) (all_under ms) in
-      every-cons (prior_node count n) m ms (one (ahead_true (count n) (place n) (count m) (place m) (every_head (ahead_node count n) m ms a)))
+      every_cons (prior_node count n) m ms (one (ahead_true (count n) (place n) (count m) (place m) (every_head (ahead_node count n) m ms a)))
       (prior-all ms (every_tail (ahead_node count n) m ms a) (omega arith))
     where
       differ : start n ≡ start m → ⊥

@@ -1,5 +1,5 @@
 -- The candidates are the first k of the documents seen: at the start, after a new document, and where they are the full list.
-use Prim.Native.Nat.{ℕ, suc, ◌+◌, ◌≤◌, ◌<◌}
+use Prim.Native.Nat.{ℕ, zero, suc, ◌+◌, ◌≤◌, ◌<◌}
 use native.Mathlib.Omega.{arith}
 use mathlib.Core.Path.{◌≡◌, refl, sym, ap, ◌∙◌}
 use mathlib.Core.Logic.{◌⊎◌, inl, inr}
@@ -8,16 +8,16 @@ use mathlib.Core.Bool.{Bool, true, false, not, ◌&&◌, and_false}
 use lib.ListN.{length, get_or, take, length-take, length-map}
 use lib.Seq.{take-nil}
 use lib.Dec.{ltb, eqb}
-use borrow.Author.Tests.{lt-ltb, le-ltb, ltb-true, eqb-true, ne_eqb, eq-eqb}
-use Rattle.bits.specs.Sequences.{bit, tally, below, occurrences}
+use borrow.Author.Tests.{lt-ltb, le-ltb, ltb-true, eqb-true, eqb-false, ne_eqb, eq-eqb}
+use Rattle.bits.specs.Sequences.{bit, tally, up_from, below, occurrences}
 use Rattle.bits.proofs.Tests.{look}
 use Rattle.bits.proofs.Tally.{tally-append, tally-sum, tally_none, tally_le_length, tally-map, length-up_from}
 use Rattle.model.specs.Lists.{keep, Every, Sorted}
 use Rattle.model.specs.Queries.{Pair, pair_of, present, listing}
 use Rattle.model.specs.TopK.{ranking, full_list, ahead_pair}
 use Rattle.model.specs.Probing.{enter, unseen, mark, nobody, seen_of, Held}
-use Rattle.model.proofs.Lists.{length-keep, tally-keep, tally-only}
-use Rattle.model.proofs.Sorting.{Same, same_length, every_head, every_tail, keep-every, sorted-take}
+use Rattle.model.proofs.Lists.{length-keep, tally-keep}
+use Rattle.model.proofs.Sorting.{Same, same_length, every_head, every_tail, sorted-take}
 use Rattle.model.proofs.Ranking.{ranking-sorted, ranking_same, ranking_unique}
 use Rattle.model.proofs.Probing.Insertion.{take-insert, enter_late}
 
@@ -26,6 +26,10 @@ use Rattle.model.proofs.Probing.Insertion.{take-insert, enter_late}
 keep_none : (ps : List Pair) → keep (λ p. false) ps ≡ []
 keep_none [] = refl
 keep_none (p ∷ ps) = keep_none ps
+
+keep_every : (t : Pair → Bool) (ps : List Pair) → Every t ps → keep t ps ≡ ps
+keep_every t [] a = refl
+keep_every t (p ∷ ps) a = rw (every_head t p ps a) (ap (λ (l : List Pair). p ∷ l) (keep_every t ps (every_tail t p ps a)))
 
 -- what is kept, and what is not
 keep-halves : (f t : Pair → Bool) (ps : List Pair) → tally f ps ≡ tally f (keep (λ p. not (t p)) ps) + tally f (keep t ps)
@@ -44,6 +48,20 @@ tally_seen : (N : ℕ) (xs : List ℕ) (seen : ℕ → Bool) (f : Pair → Bool)
     → tally f (seen_of N xs seen) ≡ tally (λ d. present (pair_of xs d) && (seen d && f (pair_of xs d))) (below N)
 tally_seen N xs seen f = tally-keep f (λ p. seen p.document) (listing N xs) ∙ tally-listing N xs (λ p. seen p.document && f p)
 
+-- one number among those from s upward
+tally_past : (d s n : ℕ) (b : Bool) → d < s → tally (λ e. eqb d e && b) (up_from s n) ≡ 0
+tally_past d s zero b l = refl
+tally_past d s (suc n) b l = rw (ne_eqb d s (omega arith), tally_past d (suc s) n b (omega arith))
+
+tally_only : (d s n : ℕ) (b : Bool) → s ≤ d → d < s + n → tally (λ e. eqb d e && b) (up_from s n) ≡ bit b
+tally_only d s zero b l h = absurd (omega arith)
+tally_only d s (suc n) b l h = go (look (eqb d s)) (tally_only d (suc s) n b)
+  where
+    go : (eqb d s ≡ true) ⊎ (eqb d s ≡ false) → (suc s ≤ d → d < suc s + n → tally (λ e. eqb d e && b) (up_from (suc s) n) ≡ bit b)
+        → bit (eqb d s && b) + tally (λ e. eqb d e && b) (up_from (suc s) n) ≡ bit b
+    go (inl e) i = rw e (omega (arith, tally_past d (suc s) n b (omega (arith, eqb-true d s e))))
+    go (inr e) i = let k = eqb-false d s e in rw e (omega (arith, i (omega arith) (omega arith)))
+
 -- ---- from document to document
 
 pub held_start : (N k : ℕ) (xs : List ℕ) → Held N k xs unseen []
@@ -60,7 +78,7 @@ module _ (N : ℕ) (xs : List ℕ) (d : ℕ) (inside : d < N) (occurs : 0 < occu
             (λ e. eqb d e && f (pair_of xs d))
             (λ e. one_more e (look (eqb d e)))
             (below N),
-        tally-only d 0 N (f (pair_of xs d)) (omega arith) (omega arith),
+        tally_only d 0 N (f (pair_of xs d)) (omega arith) (omega arith),
       )
     where
       one_more : (e : ℕ) → (eqb d e ≡ true) ⊎ (eqb d e ≡ false)
@@ -103,7 +121,7 @@ module _ (N k : ℕ) (xs : List ℕ) (seen : ℕ → Bool) (candidates : List Pa
   pub held_all : ((d : ℕ) → seen d ≡ false → occurrences d xs < 1) → candidates ≡ full_list N k xs
   held_all h =
       held
-      ∙ ap (λ (l : List Pair). take k (ranking l)) (keep-every (λ p. seen p.document) (listing N xs)
+      ∙ ap (λ (l : List Pair). take k (ranking l)) (keep_every (λ p. seen p.document) (listing N xs)
       (tally-listing N xs (λ p. not (seen p.document))
       ∙ tally_none (λ d. present (pair_of xs d) && not (seen d)) (λ d. left d (look (seen d))) (below N)))
     where

@@ -16,13 +16,13 @@ use Rattle.model.specs.Lists.{Within}
 use Rattle.model.specs.Queries.{quantile}
 use Rattle.model.specs.Probing.{Probed}
 use Rattle.model.proofs.Lists.{tally_within}
-use Rattle.model.proofs.Wavelet.Sorted.{tally-below_mono, tally-below-suc, quantile-ranked, quantile_is}
+use Rattle.model.proofs.Wavelet.Sorted.{tally-below_mono, tally-below-suc, quantile_ranked, quantile_is}
 
 -- ---- documents at ranks
 
 pub quantile-occurs : (xs : List ℕ) (r : ℕ) → r < length xs → 0 < occurrences (quantile r xs) xs
 quantile-occurs xs r l =
-    let q = quantile-ranked xs r l in
+    let q = quantile_ranked xs r l in
     omega (arith, q.under, q.over, tally-below-suc (quantile r xs) xs)
 
 pub quantile_within : (N : ℕ) (xs : List ℕ) → Within N xs → (r : ℕ) → r < length xs → quantile r xs < N
@@ -32,7 +32,7 @@ quantile_within N xs w r l = go (le_or_lt N (quantile r xs))
     go (inl h) =
         absurd (omega (
           arith,
-          (quantile-ranked xs r l).under,
+          (quantile_ranked xs r l).under,
           tally-below_mono N (quantile r xs) xs h,
           tally_within (λ v. ltb v N) N (λ v k. lt-ltb v N k) xs w,
         ))

@@ -78,24 +78,24 @@ pub record Ranked (xs : List ℕ) (r x : ℕ) : Type 0 where
   pub under : tally (λ v. ltb v x) xs ≤ r
   pub over : r < tally (λ v. ltb v (suc x)) xs
 
-ascending-ranked : (ys : List ℕ) (r : ℕ) → Ascending ys → r < length ys → Ranked ys r (get_or ys r 0)
-ascending-ranked [] r a l = absurd (not-suc-le-zero l)
-ascending-ranked (y ∷ ys) zero a l = record {
+ascending_ranked : (ys : List ℕ) (r : ℕ) → Ascending ys → r < length ys → Ranked ys r (get_or ys r 0)
+ascending_ranked [] r a l = absurd (not-suc-le-zero l)
+ascending_ranked (y ∷ ys) zero a l = record {
   under = omega (arith, above_none y (y ∷ ys) (le_refl y, a.0));
   over = omega (arith, ap bit (lt-ltb y (suc y) (le_refl (suc y))));
 }
-ascending-ranked (y ∷ ys) (suc r) a l =
+ascending_ranked (y ∷ ys) (suc r) a l =
     let m = le_of_suc-le-suc l in
-    let i = ascending-ranked ys r a.1 m in
+    let i = ascending_ranked ys r a.1 m in
     let x : ℕ = get_or ys r 0 in
     record {
       under = omega (arith, bit_le (ltb y x), i.under);
       over = omega (arith, ap bit (lt-ltb y (suc x) (omega (arith, above_at y ys r a.0 m))), i.over);
     }
 
-pub quantile-ranked : (xs : List ℕ) (r : ℕ) → r < length xs → Ranked xs r (quantile r xs)
-quantile-ranked xs r l =
-    let i = ascending-ranked (sorted xs) r (ascending-sorted xs) (rw length-sorted l) in
+pub quantile_ranked : (xs : List ℕ) (r : ℕ) → r < length xs → Ranked xs r (quantile r xs)
+quantile_ranked xs r l =
+    let i = ascending_ranked (sorted xs) r (ascending-sorted xs) (rw length-sorted l) in
     record { under = rw tally-sorted at i.under; over = rw tally-sorted at i.over }
 
 -- no two numbers have one rank
@@ -108,4 +108,4 @@ ranked_unique xs r x y p q = go (cmp x y)
     go (more l) = absurd (omega (arith, q.over, p.under, tally-below_mono (suc y) x xs l))
 
 pub quantile_is : (xs : List ℕ) (r x : ℕ) → Ranked xs r x → r < length xs → quantile r xs ≡ x
-quantile_is xs r x p l = ranked_unique xs r (quantile r xs) x (quantile-ranked xs r l) p
+quantile_is xs r x p l = ranked_unique xs r (quantile r xs) x (quantile_ranked xs r l) p

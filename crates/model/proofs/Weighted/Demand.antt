@@ -1,5 +1,5 @@
 -- M-100 as one theorem: `weighted_result` yields the record of its sentences (`specs/WeightedDemand`).
-use Prim.Native.Nat.{ℕ, suc, ◌*◌, ◌^◌, ◌≤◌, ◌<◌, min}
+use Prim.Native.Nat.{ℕ, suc, ◌+◌, ◌*◌, ◌^◌, ◌≤◌, ◌<◌, min}
 use native.Mathlib.Omega.{arith}
 use native.Mathlib.Nat.{zero-add}
 use mathlib.Core.Path.{◌≡◌, refl, sym, ap, ap₂, ◌∙◌, fun_ext}
@@ -20,7 +20,7 @@ use Rattle.model.specs.Format.{Library, Sizes}
 use Rattle.model.specs.Opening.{contents, opening}
 use Rattle.model.specs.Queries.{Pair, flat, term_start, under}
 use Rattle.model.specs.TopK.{Node, node, start, count_in, inner_nodes, need_by, answer_by, Answer, Ended, found_of, found_into, SearchResult}
-use Rattle.model.specs.Search.{every_document, wait, moves_from, most_moves}
+use Rattle.model.specs.Search.{wait, moves_from}
 use Rattle.model.specs.Weighted.{Weighed, documents_in, weight, weighed_term, weighed, score_of, is_found, score_in, lives_in, weighted_top_k, weighted_moves, weighted_found, weighted_result}
 use Rattle.model.specs.Demand3.{Room}
 use Rattle.model.specs.RarestFirst.{rarest_first, RarestFirst}
@@ -162,9 +162,9 @@ module _ (lib : Library) (terms : List ℕ) where
                 ∙ ap figure_of (sym (answer_is k allowance) ∙ sym (weighted h N (le_pow-height N) ws (weighed_within lib within terms) k allowance))
                 ∙ figure-answer (weighted_moves ws h k allowance);
             moves_are = refl;
-            moves_begin = ap (moves_from every_document (score_in ws) (lives_in ws) (most_moves allowance) k allowance)
+            moves_begin = ap (moves_from (score_in ws) (lives_in ws) (k + allowance) k allowance)
                 (weighted_begin_lem h ws (all_within_le N (2 ^ h) (le_pow-height N) ws (weighed_within lib within terms)))
-                ∙ ap₂ (λ (c : Node → ℕ) (l : Node → Bool). moves_from every_document c l (most_moves allowance) k allowance (wait c l (node h 0) [])) node_total_is node_has_is;
+                ∙ ap₂ (λ (c : Node → ℕ) (l : Node → Bool). moves_from c l (k + allowance) k allowance (wait c l (node h 0) [])) node_total_is node_has_is;
             working = covering.left_work flat need refl allowance full N out work r by_need;
           }
 

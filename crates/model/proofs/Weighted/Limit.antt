@@ -40,14 +40,14 @@ occurrences-beyond v [] = refl
 occurrences-beyond v (zero ∷ ts) = omega (arith, occurrences-beyond v ts, bit_ne (suc v) 0 (λ e. omega arith))
 occurrences-beyond v (suc t ∷ ts) = omega (arith, occurrences-beyond v ts, ap bit (eqb_iff v t (suc v) (suc t) (λ e. omega arith) (λ e. omega arith)))
 
-at-without : (x : ℕ) (xs ts : List ℕ) → occurrences 0 ts ≡ 0 → at (x ∷ xs) ts ≡ at xs (beyond ts)
-at-without x xs [] o = refl
-at-without x xs (zero ∷ ts) o = absurd (omega arith)
-at-without x xs (suc t ∷ ts) o = omega (arith, at-without x xs ts (omega arith))
+at_without : (x : ℕ) (xs ts : List ℕ) → occurrences 0 ts ≡ 0 → at (x ∷ xs) ts ≡ at xs (beyond ts)
+at_without x xs [] o = refl
+at_without x xs (zero ∷ ts) o = absurd (omega arith)
+at_without x xs (suc t ∷ ts) o = omega (arith, at_without x xs ts (omega arith))
 
 at_once : (x : ℕ) (xs ts : List ℕ) → occurrences 0 ts ≤ 1 → at (x ∷ xs) ts ≤ x + at xs (beyond ts)
 at_once x xs [] o = omega arith
-at_once x xs (zero ∷ ts) o = omega (arith, at-without x xs ts (omega arith))
+at_once x xs (zero ∷ ts) o = omega (arith, at_without x xs ts (omega arith))
 at_once x xs (suc t ∷ ts) o = omega (arith, at_once x xs ts (omega arith))
 
 at_different : (xs ts : List ℕ) → Different ts → at xs ts ≤ sum xs

@@ -12,7 +12,7 @@ use Rattle.model.specs.Lists.{keep, Within}
 use Rattle.model.specs.Format.{Library}
 use Rattle.model.specs.Queries.{Pair, term_start, under}
 use Rattle.model.specs.TopK.{Node, node, ranking, need_by, answer_by}
-use Rattle.model.specs.Search.{Waiting, answer_of, every_document, wait, moves_from, most_moves}
+use Rattle.model.specs.Search.{Waiting, answer_of, wait, moves_from}
 use Rattle.model.specs.Weighted.{Weighed, documents_in, weighed_term, weighed, score_in, lives_in, weighted_need, weighted_top_k, weighted_begin, weighted_moves}
 use Rattle.model.proofs.Lists.{within_le, within_part}
 use Rattle.model.proofs.Greedy.Abstract.{topKOf}
@@ -41,7 +41,7 @@ all_within_le m n l (w ∷ ws) a = (within_le m n l w.entries a.0, all_within_le
 module _ (h N : ℕ) (fits : N ≤ 2 ^ h) (ws : List Weighed) (within : AllWithin N ws) where
   pub weighted : (k allowance : ℕ) → answer_of (weighted_moves ws h k allowance) ≡ weighted_top_k ws h N k allowance
   weighted k allowance =
-      ap (λ (w : List Waiting). answer_of (moves_from every_document (score_in ws) (lives_in ws) (most_moves allowance) k allowance w))
+      ap (λ (w : List Waiting). answer_of (moves_from (score_in ws) (lives_in ws) (k + allowance) k allowance w))
       (weighted_begin_lem h ws (all_within_le N (2 ^ h) fits ws within))
       ∙ greedy-of (score_in ws) (lives_in ws) (scored ws) h N fits (λ d l u. not_living N ws within d l) k allowance
       ∙ topKOf_weighted ws h N k allowance

@@ -11,7 +11,7 @@ use Rattle.model.specs.Outcome.{Outcome, answered, refused, and_then}
 use Rattle.model.specs.Rows.{height}
 use Rattle.model.specs.Queries.{Pair, Range, first_place}
 use Rattle.model.specs.TopK.{full_list, need, covered_by, answer_by, Answer, top_k, Ended, done_with, spent_with, pairs_of, SearchResult, found_of, with_places, found_into, greedy_result, probing_result}
-use Rattle.model.specs.Search.{is_opening, every_document, search_moves}
+use Rattle.model.specs.Search.{is_opening, search_moves}
 use Rattle.model.specs.Demand3.{is_done, figure}
 use Rattle.model.proofs.Height.{le_pow-height}
 use Rattle.model.proofs.FirstPlaces.{length-flat_placed}
@@ -88,7 +88,7 @@ module _ (k allowance : ℕ) (x : Asked) (out work : List ℕ) (r : SearchResult
   greedy_spent = any-need.left_spent (written x) (needed k x) refl allowance (full k x) N out work r by_need
 
   -- "Either number is how many moves opened a block"
-  pub greedy_openings : Within N x.entries → figure r.outcome ≡ tally is_opening (search_moves every_document (height N) x.entries k allowance)
+  pub greedy_openings : Within N x.entries → figure r.outcome ≡ tally is_opening (search_moves (height N) x.entries k allowance)
   greedy_openings within =
       any-need.left-figure (written x) (needed k x) refl allowance (full k x) N out work r by_need
       ∙ ap figure_of (sym (top_k-answer_by x.entries (height N) N k allowance))
@@ -125,12 +125,12 @@ module _ (k allowance : ℕ) (x : Asked) (covers : cost k x ≤ allowance) (out 
     (g : SearchResult Ended) (greedily : g ≡ found_into out work (answered (greedy_of k allowance x)))
     (p : SearchResult ℕ) (probing : p ≡ found_into out' work' (answered (probing_of k x))) where
   -- so many pairs
-  pub both-count : (g.outcome ≡ answered (done_with (length (full k x)) (cost k x))) × (p.outcome ≡ answered (length (full k x)))
-  both-count = ((greedy_done k allowance x out work g greedily covers).0, (probing-full k x out' work' p probing).0)
+  pub both_count : (g.outcome ≡ answered (done_with (length (full k x)) (cost k x))) × (p.outcome ≡ answered (length (full k x)))
+  both_count = ((greedy_done k allowance x out work g greedily covers).0, (probing-full k x out' work' p probing).0)
 
   -- the same numbers, whatever stood in the slices
-  pub both-numbers : take (3 * length (full k x)) g.answers ≡ take (3 * length (full k x)) p.answers
-  both-numbers = seam out g.answers (greedy_done k allowance x out work g greedily covers).1 ∙ sym (seam out' p.answers (probing-full k x out' work' p probing).1)
+  pub both_numbers : take (3 * length (full k x)) g.answers ≡ take (3 * length (full k x)) p.answers
+  both_numbers = seam out g.answers (greedy_done k allowance x out work g greedily covers).1 ∙ sym (seam out' p.answers (probing-full k x out' work' p probing).1)
     where
       seam : (before after : List ℕ) → after ≡ overwrite (written x (full k x)) before → take (3 * length (full k x)) after ≡ written x (full k x)
       seam before after e =

@@ -9,7 +9,7 @@ use borrow.Author.Tests.{le-ltb, lt-leb}
 use Rattle.model.specs.Lists.{part, Within}
 use Rattle.model.specs.Outcome.{Outcome, answered, refuse, and_then}
 use Rattle.model.specs.Rows.{height}
-use Rattle.model.specs.Format.{Library, Sizes}
+use Rattle.model.specs.Format.{Sizes}
 use Rattle.model.specs.Opening.{contents, opening}
 use Rattle.model.specs.Queries.{Pair, Range, of_entries, of_terms, Bounds, bounds_of, term_start}
 use Rattle.model.specs.TopK.{full_list, need, Ended, SearchResult, greedy_result, probing_result, found_into}
@@ -96,22 +96,6 @@ module _ (bytes : List ℕ) (s : Sizes) (archive : opening bytes ≡ answered s)
       g (promise ∙ greedy_accepted bytes range k out work searched (asked_is out work room) allowance)
       p (promise' ∙ probing_accepted bytes range k out' work' searched (asked_is out' work' room'))
 
--- ---- ranges inside an archive
-
--- the entries a up to but without b
-pub bounds_entries : (lib : Library) (a b : ℕ) → a ≤ b → b ≤ length lib.entries → bounds_of lib (of_entries a b) ≡ answered (record { from = a; to = b })
-bounds_entries lib a b order inside =
-    ap₂ (λ (c d : Bool). refuse 11 (c || d) (answered (record { from = a; to = b }))) (le-ltb b a order) (le-ltb (length lib.entries) b inside)
-
--- the terms f to l, both included
-pub bounds_terms : (lib : Library) (f l : ℕ) → f ≤ l → l < length lib.lengths
-    → bounds_of lib (of_terms f l) ≡ answered (record { from = term_start lib f; to = term_start lib (suc l) })
-bounds_terms lib f l order known =
-    let W : ℕ = length lib.lengths in
-    (λ i.
-    refuse 11 (le-ltb l f order i || lt-leb W f (omega arith) i || lt-leb W l known i)
-    (answered (record { from = term_start lib f; to = term_start lib (suc l) })))
-
 -- ---- the operations
 
 -- what `greedy_entries`, `greedy_terms`, `probing_entries` and `probing_terms` promise, each of the answer and of what the lent slices hold after it
@@ -137,7 +121,11 @@ module _ (bytes : List ℕ) (s : Sizes) (archive : opening bytes ≡ answered s)
       → Greedily bytes (of_entries a b) k allowance out work answer after working → ByProbing bytes (of_entries a b) k out' work' probed after' working'
       → Demanded a (part a b (contents bytes).entries)
   of-entries a b order inside g p =
-      demand_3 bytes s archive (of_entries a b) (record { from = a; to = b }) (bounds_entries (contents bytes) a b order inside) k allowance
+      let n : ℕ = length (contents bytes).entries in
+      let r : Bounds = record { from = a; to = b } in
+      let accepted : bounds_of (contents bytes) (of_entries a b) ≡ answered r
+      = ap₂ (λ (c d : Bool). refuse 11 (c || d) (answered r)) (le-ltb b a order) (le-ltb n b inside) in
+      demand_3 bytes s archive (of_entries a b) r accepted k allowance
       out work room (record { outcome = topKOf answer; answers = after; work = working }) g
       out' work' room' (record { outcome = probed_of probed; answers = after'; work = working' }) p
 
@@ -146,7 +134,10 @@ module _ (bytes : List ℕ) (s : Sizes) (archive : opening bytes ≡ answered s)
       → Greedily bytes (of_terms f l) k allowance out work answer after working → ByProbing bytes (of_terms f l) k out' work' probed after' working'
       → Demanded (term_start (contents bytes) f) (part (term_start (contents bytes) f) (term_start (contents bytes) (suc l)) (contents bytes).entries)
   of-terms f l order known g p =
-      demand_3 bytes s archive (of_terms f l) (record { from = term_start (contents bytes) f; to = term_start (contents bytes) (suc l) })
-      (bounds_terms (contents bytes) f l order known) k allowance
+      let W : ℕ = length (contents bytes).lengths in
+      let r : Bounds = record { from = term_start (contents bytes) f; to = term_start (contents bytes) (suc l) } in
+      let accepted : bounds_of (contents bytes) (of_terms f l) ≡ answered r
+      = (λ i. refuse 11 (le-ltb l f order i || lt-leb W f (omega arith) i || lt-leb W l known i) (answered r)) in
+      demand_3 bytes s archive (of_terms f l) r accepted k allowance
       out work room (record { outcome = topKOf answer; answers = after; work = working }) g
       out' work' room' (record { outcome = probed_of probed; answers = after'; work = working' }) p

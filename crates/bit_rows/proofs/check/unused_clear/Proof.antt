@@ -1,7 +1,7 @@
 use mathlib.Core.Path.{sym}
 use Prim.Native.Nat.{◌/◌}
 use borrow.Author.Rules.{rules}
-use Rattle.bits.proofs.Stores.{unused_none, unused-byte}
+use Rattle.bits.proofs.Stores.{unused_none, unused_byte}
 use Rattle.bit_rows.proofs.check.unused_clear.Statement.{statement}
 use Rattle.bit_rows.proofs.check.unused_clear.Tie as tie
 
@@ -20,7 +20,7 @@ shr-result c = search rules
 returns-2 : tie.Need-returns-2
 returns-2 c =
     let s = c.before.before in
-    sym (unused-byte s.args.n s.args.row.now c.before.if1.false (c.shared-slice-known.given (s.args.n / 8)).fits)
+    sym (unused_byte s.args.n s.args.row.now c.before.if1.false (c.shared-slice-known.given (s.args.n / 8)).fits)
 
 pub unused-clear-spec : {M : Type 1} → statement M
 unused-clear-spec =

@@ -3,7 +3,7 @@ use Prim.Native.Nat.{◌+◌, ◌*◌, ◌/◌, ◌%◌}
 use native.Mathlib.Omega.{arith}
 use borrow.Author.Rules.{rules}
 use Rattle.bits.specs.Rows.{count_below}
-use Rattle.bits.proofs.Bits.{ones-byte}
+use Rattle.bits.proofs.Bits.{ones_byte}
 use Rattle.bits.proofs.count.tail_ones.Statement.{statement}
 use Rattle.bits.proofs.count.tail_ones.Tie as tie
 
@@ -24,7 +24,7 @@ returns-2 c =
     let s = c.before.before.before.before in
     let i = s.args.i in
     let p : 8 * (i / 8) + i % 8 ≡ i = omega arith in
-    omega (arith, rw p at (ones-byte s.args.row.now (i / 8) (i % 8) (omega arith)))
+    omega (arith, rw p at (ones_byte s.args.row.now (i / 8) (i % 8) (omega arith)))
 
 pub tail-ones-spec : {M : Type 1} → statement M
 tail-ones-spec =

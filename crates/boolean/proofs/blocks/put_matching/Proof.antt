@@ -10,7 +10,7 @@ use Rattle.model.specs.Reading.{reading}
 use Rattle.matching.specs.Sets.{set_at}
 use Rattle.bitmaps.specs.Words.{block_height}
 use Rattle.boolean.specs.Blocks.{set_by}
-use Rattle.boolean.proofs.Matched.{Coming, coming-first, coming-length, coming_room, coming_next, coming-last, block_lt, blocks_few, blocks_most, documents_few}
+use Rattle.boolean.proofs.Matched.{Coming, coming_first, coming_length, coming_room, coming_next, coming_last, block_lt, blocks_few, blocks_most, documents_few}
 use Rattle.boolean.proofs.Readable.{read_some}
 use Rattle.boolean.proofs.Blanks.{no_masks}
 use Rattle.boolean.proofs.blocks.put_matching.Statement.{statement}
@@ -36,7 +36,7 @@ set-in-requires c κs = search rules
 loop-holds : tie.Need-loop-init invariant-loop decreases-loop
 loop-holds c =
     let g = c.before.before.before.before.before.before.args in
-    λ e h. coming-first g.masks.now e g.l.levels.height g.l.documents g.answers.now
+    λ e h. coming_first g.masks.now e g.l.levels.height g.l.documents g.answers.now
 
 set-of-requires : tie.Need-set-of-requires invariant-loop decreases-loop
 set-of-requires c κs =
@@ -71,7 +71,7 @@ put-documents-requires c κs =
     let n = c.before.least.ensures in (
       omega (arith, n, size, most),
       omega (arith, n, size, most, o.inside, s.requires.0.1, documents_few g.l.levels.height s.requires.0.0),
-      omega (arith, n, o.inside, coming_room g.masks.now x.0 g.l.levels.height g.l.documents g.answers.now o, coming-length g.masks.now x.0 g.l.levels.height g.l.documents g.answers.now o, s.requires.0.2),
+      omega (arith, n, o.inside, coming_room g.masks.now x.0 g.l.levels.height g.l.documents g.answers.now o, coming_length g.masks.now x.0 g.l.levels.height g.l.documents g.answers.now o, s.requires.0.2),
     )
 
 add-block : tie.Need-overflow-add-block invariant-loop decreases-loop
@@ -122,7 +122,7 @@ same_length c =
     let k = c.before.before.loop in
     let x = read_some (reading g.question.now) s.requires.1.1 in
     let o = k.invariant x.0 x.1 in
-    coming-length g.masks.now x.0 g.l.levels.height g.l.documents g.answers.now o
+    coming_length g.masks.now x.0 g.l.levels.height g.l.documents g.answers.now o
 
 returns : tie.Need-returns invariant-loop decreases-loop
 returns c =
@@ -131,7 +131,7 @@ returns c =
     let k = c.before.before.loop in
     let x = read_some (reading g.question.now) s.requires.1.1 in
     let o = k.invariant x.0 x.1 in
-    rw x.1 (coming-last g.masks.now x.0 g.l.levels.height g.l.documents g.answers.now o (omega arith))
+    rw x.1 (coming_last g.masks.now x.0 g.l.levels.height g.l.documents g.answers.now o (omega arith))
 
 pub put-matching-spec : {M : Type 1} → statement M
 put-matching-spec =

@@ -9,7 +9,7 @@ use Rattle.wavelet.proofs.Ranges.{node_lt, node_few}
 use Rattle.answers.proofs.Stores.{written_none, written-pair, written_both}
 use Rattle.listing.proofs.Listed.{pairs-empty, pairs_leaf, pairs-halves, pairs-count}
 use Rattle.listing.proofs.Numbers.{number_lt}
-use Rattle.listing.proofs.Noted.{noted-empty, noted_leaf, noted-both}
+use Rattle.listing.proofs.Noted.{noted-empty, noted_leaf, noted_both}
 use Prim.Native.Nat.{ℕ, ◌+◌, ◌-◌, ◌*◌, ◌<◌}
 use borrow.Fn.Kinds.{In}
 use borrow.Fn.PlainCycle.{Measures, is, falls, and}
@@ -161,7 +161,7 @@ list_node_returns_3 t c =
           k.list-node.ensures.0
           (written_none _ _ (pairs-empty (level_of g.bytes.now g.t) (g.t.height - (g.j + 1)) (g.j + 1) (2 * g.q + 1) w.halve.result.one none)),
       sym (noted-empty (level_of g.bytes.now g.t) (g.t.height - (g.j + 1)) (g.j + 1) (2 * g.q + 1) w.halve.result.one t1 none)
-          ∙ noted-both g.bytes.now g.t g.j g.q n g.cursors.now w.halve.result w.halve.ensures.0 l i.if1.false
+          ∙ noted_both g.bytes.now g.t g.j g.q n g.cursors.now w.halve.result w.halve.ensures.0 l i.if1.false
           m.note-end.new.0 t1 m.note-end.ensures k.list-node.ensures.1,
     )
 
@@ -228,7 +228,7 @@ list_node_returns_4 t c =
           (pairs-halves g.bytes.now g.t g.j g.q n w.halve.result w.halve.ensures.0 l)
           k.list-node.ensures.0 y.list-node2.ensures.0,
       y.list-node2.ensures.1
-          ∙ noted-both g.bytes.now g.t g.j g.q n g.cursors.now w.halve.result w.halve.ensures.0 l i.if1.false
+          ∙ noted_both g.bytes.now g.t g.j g.q n g.cursors.now w.halve.result w.halve.ensures.0 l i.if1.false
           m.note-end.new.0 k.list-node.new.1.1.1.1.1.1.1.1.1.1.0 m.note-end.ensures k.list-node.ensures.1,
     )
 

@@ -106,8 +106,8 @@ module _ (t : ℕ) where
       let r = room s.args.question.now 60000 s.args.at l.parse (omega arith) l.invariant.advances (sym c.before.before.goes_on.ensures ∙ c.before.if1.true) in
       omega (arith, r, c.after-mark.ensures, s.requires.0, s.requires.1)
 
-  conjunction-both_requires : conjunction-lts.Need-both-requires conjunction_calls (conjunction-at t) conjunction.Post conjunction_Inv_loop conjunction_μ_loop
-  conjunction-both_requires c κs = search rules
+  conjunction_both_requires : conjunction-lts.Need-both-requires conjunction_calls (conjunction-at t) conjunction.Post conjunction_Inv_loop conjunction_μ_loop
+  conjunction_both_requires c κs = search rules
 
   conjunction_loop_less : conjunction-lts.Need-loop-smaller conjunction_calls (conjunction-at t) conjunction.Post conjunction_Inv_loop conjunction_μ_loop
   conjunction_loop_less c =
@@ -292,7 +292,7 @@ pub +conjunction-disjunction-negation-spec : {M : Type 1} → statement M
 +conjunction-disjunction-negation-spec =
     close μ_conjunction μ_disjunction μ_negation
     (λ t. conjunction-lts.spec (conjunction_calls t) (conjunction-at t) conjunction.Post conjunction_Inv_loop conjunction_μ_loop
-    (conjunction_negation_requires t) (conjunction_loop_holds t) (conjunction_goes_on_requires t) (conjunction-after-mark_requires t) (conjunction_negation_requires_2 t) (conjunction-both_requires t) (conjunction_loop_less t) (conjunction_loop_again t) (conjunction_returns t))
+    (conjunction_negation_requires t) (conjunction_loop_holds t) (conjunction_goes_on_requires t) (conjunction-after-mark_requires t) (conjunction_negation_requires_2 t) (conjunction_both_requires t) (conjunction_loop_less t) (conjunction_loop_again t) (conjunction_returns t))
     (λ t. disjunction-lts.spec (disjunction_calls t) (disjunction_at t) disjunction.Post disjunction_Inv_loop disjunction_μ_loop
     (disjunction_conjunction_requires t) (disjunction_loop_holds t) (disjunction_goes_on_requires t) (disjunction_after-mark_requires t) (disjunction_conjunction_requires_2 t) (disjunction_either_requires t) (disjunction_loop_less t) (disjunction_loop_again t) (disjunction_returns t))
     (λ t. negation-lts.spec (negation_calls t) (negation_at t) negation.Post

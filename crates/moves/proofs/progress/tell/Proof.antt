@@ -12,7 +12,7 @@ enum-known-made c = search rules
 list-requires : tie.Need-list-requires
 list-requires c κs =
     let s = c.before.before.before.before.before in
-    (rw c.before.before.made.given.1 at s.requires.0) refl
+    rw c.before.before.made.given.1 at s.requires.0
 
 enum_told : tie.Need-enum-told
 enum_told c = search rules

@@ -5,7 +5,7 @@ use mathlib.Core.Path.{◌∙◌}
 use mathlib.Core.Bool.{Bool}
 use lib.Dec.{leb}
 use Rattle.wavelet.specs.declared.Span.{Span}
-use Rattle.wavelet.proofs.Ranges.{node_lt, node_few, byte_le, byte-mul_le, leaf_end, leaf_next, ordered_half}
+use Rattle.wavelet.proofs.Ranges.{node_lt, node_few, byte_le, byte_mul_le, leaf_end, leaf_next, ordered_half}
 use borrow.Fn.Kinds.{In}
 use borrow.Fn.PlainCycle.{Measures, is, falls, and}
 use Rattle.wavelet.proofs.range.leaf_of.Reads as leaf-of
@@ -77,13 +77,13 @@ leaf_of-mul_leaf_of_2 : (t : ℕ) → leaf-of-lts.Need-overflow-mul-leaf-of-2 (l
 leaf_of-mul_leaf_of_2 t c =
     let g = c.before.before.before.before.before.before.before.args in
     let zero = c.before.before.before.halve.result.zero in
-    omega (arith, byte-mul_le (zero.hi - zero.lo) g.r)
+    omega (arith, byte_mul_le (zero.hi - zero.lo) g.r)
 
 leaf_of-sub_leaf_of : (t : ℕ) → leaf-of-lts.Need-overflow-sub-leaf-of (leaf_of_calls t) (leaf_of-at t) leaf-of.Post
 leaf_of-sub_leaf_of t c =
     let g = c.before.before.before.before.before.before.before.args in
     let zero = c.before.before.before.halve.result.zero in
-    (byte-mul_le (zero.hi - zero.lo) g.r).0
+    (byte_mul_le (zero.hi - zero.lo) g.r).0
 
 leaf_of_leaf_of_requires : (t : ℕ) → leaf-of-lts.Need-leaf-of-requires (leaf_of_calls t) (leaf_of-at t) leaf-of.Post
 leaf_of_leaf_of_requires t c κs =

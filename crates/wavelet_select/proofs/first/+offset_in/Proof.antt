@@ -9,7 +9,7 @@ use Rattle.wavelet.specs.Levels.{level_of}
 use Rattle.wavelet.specs.Spans.{span, Ordered, halves_of, half_of}
 use Rattle.wavelet.proofs.Steps.{rank_le}
 use Rattle.wavelet_select.specs.Places.{up_from_half}
-use Rattle.wavelet_select.proofs.Offsets.{ranked_self, ranked-span}
+use Rattle.wavelet_select.proofs.Offsets.{ranked_self, ranked_span}
 use Rattle.wavelet_select.proofs.FirstEntries.{first-all, no_leaf, half_ordered, half_has, first_alone, first_up, middle_before, before-range}
 use borrow.Fn.Kinds.{In}
 use borrow.Fn.PlainCycle.{Measures, is, falls, and}
@@ -78,7 +78,7 @@ offset_in_halve_range_requires t c κs =
     let g = s.args in
     let bits : List ℕ = level_of g.bytes.now g.t g.j in
     let r = c.rank-node.ensures in
-    let whole = ranked-span bits g.start g.end g.lo g.hi c.rank-node.result r in
+    let whole = ranked_span bits g.start g.end g.lo g.hi c.rank-node.result r in
     (s.requires.1.0, (offset_in_inner t c.before, ranked_self bits g.start g.end g.lo g.hi c.rank-node.result r, subst (Ordered g.t.entries) (sym whole) s.requires.1.1.1))
 
 -- both halves
@@ -88,7 +88,7 @@ offset_in_halved : (t : ℕ) (c : offset-in-lts.After-halve-range (offset_in_cal
 offset_in_halved t c =
     let g = c.before.before.before.before.args in
     let bits : List ℕ = level_of g.bytes.now g.t g.j in
-    c.halve-range.ensures.0 ∙ ap (halves_of bits) (ranked-span bits g.start g.end g.lo g.hi c.before.rank-node.result c.before.rank-node.ensures)
+    c.halve-range.ensures.0 ∙ ap (halves_of bits) (ranked_span bits g.start g.end g.lo g.hi c.before.rank-node.result c.before.rank-node.ensures)
 
 -- the half that the bit leads to
 offset_in_half : (t : ℕ) (c : offset-in-lts.After-half (offset_in_calls t) (offset_in_at t) offset-in.Post)

@@ -1,9 +1,7 @@
 -- `advance`: what `step` answers is the move, and `tell` says what follows from it.
 use native.Mathlib.Omega.{arith}
 use borrow.Author.Rules.{rules}
-use Rattle.model.specs.Search.{every_document}
-use Rattle.moves.specs.Moves.{move_is}
-use Rattle.moves.proofs.Advances.{drops_none, tellable, advanced}
+use Rattle.moves.proofs.Advances.{tellable, advanced}
 use Rattle.weighted.specs.Grounds.{ground_of}
 use Rattle.weighted.proofs.run.advance.Statement.{statement}
 use Rattle.weighted.proofs.run.advance.Tie as tie
@@ -19,8 +17,8 @@ tell-requires c κs =
     let s = c.before.before.before.before.before.before.before.before.before.before.before.before.before.before.before in
     let a = s.args in
     let st = c.before.before.before.before.before.before.before.step in
-    tellable (ground_of a.archive.now a.l a.q) every_document a.allowance a.p a.answers.now a.work.now st.result.moved st.new.1.1.1.1.1.1.0 st.ensures.0
-    (drops_none (move_is st.result.moved.made)) s.requires.1.1.1 s.requires.1.1.0.2 (omega (arith, s.ranges.allowance))
+    tellable (ground_of a.archive.now a.l a.q) a.allowance a.p a.answers.now a.work.now st.result.moved st.new.1.1.1.1.1.1.0 st.ensures.0
+    s.requires.1.1.1 s.requires.1.1.0.2 (omega (arith, s.ranges.allowance))
 
 same_length : tie.Need-same-length
 same_length c = search rules
@@ -36,8 +34,8 @@ returns c =
     let a = c.before.before.before.before.before.before.before.before.before.before.before.before.before.before.before.before.before.before.args in
     let st = c.before.before.before.before.before.before.before.before.before.before.step in
     let t = c.before.before.tell in (
-      advanced (ground_of a.archive.now a.l a.q) every_document a.allowance a.p a.answers.now a.work.now st.result.moved st.new.1.1.1.1.1.1.0 st.ensures.0
-          (drops_none (move_is st.result.moved.made)) st.ensures.1.0 t.result t.ensures.0 t.new.1.1.0 t.ensures.1,
+      advanced (ground_of a.archive.now a.l a.q) a.allowance a.p a.answers.now a.work.now st.result.moved st.new.1.1.1.1.1.1.0 st.ensures.0
+          st.ensures.1.0 t.result t.ensures.0 t.new.1.1.0 t.ensures.1,
       st.ensures.1.1,
     )
 

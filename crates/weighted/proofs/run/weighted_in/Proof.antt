@@ -10,22 +10,21 @@ use Rattle.model.specs.Outcome.{answered}
 use Rattle.model.specs.TopK.{Ended, Found, found_into}
 use Rattle.archive.proofs.Opened.{fitting}
 use Rattle.moves.specs.Results.{goes_on}
-use Rattle.model.specs.Search.{every_document}
 use Rattle.moves.proofs.Course.{fuel_of}
 use Rattle.moves.proofs.Searching.{Searching, searching_begin, begun_rest, some_wait, searching_room, searching_less, searching_step, listed_le, searching_end}
 use Rattle.weighted.specs.Grounds.{Weighs, ground_of}
 use Rattle.weighted.specs.Steps.{Question, Leads}
 use Rattle.weighted.proofs.Nodes.{sound}
-use Rattle.weighted.proofs.Answers.{found-moves}
+use Rattle.weighted.proofs.Answers.{found_moves}
 use Rattle.weighted.proofs.run.weighted_in.Statement.{statement}
 use Rattle.weighted.proofs.run.weighted_in.Tie as tie
 
 abbrev invariant-loop : tie.invariant-loop
 invariant-loop archive l q k allowance answers₀ work₀ weights path₀ p₀ at₀ answers work path p at =
-    Searching (ground_of archive l q) every_document k allowance answers₀ work₀ answers work p × Leads archive l q path at
+    Searching (ground_of archive l q) k allowance answers₀ work₀ answers work p × Leads archive l q path at
 
 abbrev decreases-loop : tie.decreases-loop
-decreases-loop archive l q k allowance answers₀ work₀ weights path₀ p₀ at₀ answers work path p at = fuel_of allowance p
+decreases-loop archive l q k allowance answers₀ work₀ weights path₀ p₀ at₀ answers work path p at = fuel_of k allowance p
 
 eight : (s : tie.Start invariant-loop decreases-loop) → length s.args.q.numbers ≡ 8
 eight s = search rules
@@ -69,7 +68,7 @@ loop-holds c =
     let ok = sound a.archive.now a.l o.opened a.q o.asked o.eight in
     let p = c.before.before.before.before.before.before.put-root in
     let b = c.before.before.begin in (
-      searching_begin G ok every_document a.k a.allowance a.answers.now a.work.now b.new.1.1.1.1.1.0 b.result s.requires.1.2 b.ensures,
+      searching_begin G ok a.k a.allowance a.answers.now a.work.now b.new.1.1.1.1.1.0 b.result s.requires.1.2 b.ensures,
       record { room = p.auto.1.1.1.0; inside = record { low = omega arith; few = omega arith }; held = p.ensures },
     )
 
@@ -93,8 +92,8 @@ advance-requires c κs =
       (
         l.invariant.1,
         (
-          (some_wait G ok every_document a.k a.allowance a.answers.now w₀ l.answers l.work l.p l.invariant.0 on s.requires.1.1, l.invariant.0.kept, l.invariant.0.course.covered),
-          searching_room G ok every_document a.k a.allowance a.answers.now w₀ l.answers l.work l.p l.invariant.0 on s.requires.1.1,
+          (some_wait G ok a.k a.allowance a.answers.now w₀ l.answers l.work l.p l.invariant.0 on s.requires.1.1, l.invariant.0.kept, l.invariant.0.course.covered),
+          searching_room G ok a.k a.allowance a.answers.now w₀ l.answers l.work l.p l.invariant.0 on s.requires.1.1,
         ),
       ),
     )
@@ -110,7 +109,7 @@ loop-less c =
     let w₀ = c.before.before.before.before.before.before.before.before.before.before.before.before.before.before.before.before.begin.new.1.1.1.1.1.0 in
     let on : goes_on l.p a.k ≡ true = sym c.before.before.before.before.before.before.before.before.before.before.before.before.goes_on.ensures ∙ c.before.before.before.before.before.before.before.before.before.before.before.if1.true in
     let r = c.before.before.before.before.before.before.before.advance in
-    searching_less G ok every_document a.k a.allowance a.answers.now w₀ l.answers l.work l.p l.invariant.0 on s.requires.1.1 r.new.1.1.1.1.1.1.1.1.0 r.new.1.1.1.1.1.1.1.1.1.0 r.result.progress r.ensures.0
+    searching_less G ok a.k a.allowance a.answers.now w₀ l.answers l.work l.p l.invariant.0 on s.requires.1.1 r.new.1.1.1.1.1.1.1.1.0 r.new.1.1.1.1.1.1.1.1.1.0 r.result.progress r.ensures.0
 
 loop-again : tie.Need-loop-preserved invariant-loop decreases-loop
 loop-again c =
@@ -123,7 +122,7 @@ loop-again c =
     let w₀ = c.before.before.before.before.before.before.before.before.before.before.before.before.before.before.before.before.begin.new.1.1.1.1.1.0 in
     let on : goes_on l.p a.k ≡ true = sym c.before.before.before.before.before.before.before.before.before.before.before.before.goes_on.ensures ∙ c.before.before.before.before.before.before.before.before.before.before.before.if1.true in
     let r = c.before.before.before.before.before.before.before.advance in
-    (searching_step G ok every_document a.k a.allowance a.answers.now w₀ l.answers l.work l.p l.invariant.0 on s.requires.1.1 r.new.1.1.1.1.1.1.1.1.0 r.new.1.1.1.1.1.1.1.1.1.0 r.result.progress r.ensures.0, r.ensures.1)
+    (searching_step G ok a.k a.allowance a.answers.now w₀ l.answers l.work l.p l.invariant.0 on s.requires.1.1 r.new.1.1.1.1.1.1.1.1.0 r.new.1.1.1.1.1.1.1.1.1.0 r.result.progress r.ensures.0, r.ensures.1)
 
 mul-clear : tie.Need-overflow-mul-clear invariant-loop decreases-loop
 mul-clear c =
@@ -142,7 +141,7 @@ ending-requires c κs =
     let ok = sound a.archive.now a.l o.opened a.q o.asked o.eight in
     let l = c.before.before.before.before.before.before.before.loop in
     let w₀ = c.before.before.before.before.before.before.before.before.before.before.begin.new.1.1.1.1.1.0 in
-    omega (arith, listed_le G ok every_document a.k a.allowance a.answers.now w₀ l.answers l.work l.p l.invariant.0, s.ranges.k)
+    omega (arith, listed_le G ok a.k a.allowance a.answers.now w₀ l.answers l.work l.p l.invariant.0, s.ranges.k)
 
 same_length : tie.Need-same-length invariant-loop decreases-loop
 same_length c = c.before.before.before.before.before.before.before.before.loop.invariant.0.course.size
@@ -162,10 +161,10 @@ returns c =
     let on : goes_on l.p a.k ≡ false = sym c.before.before.before.before.before.before.before.goes_on.ensures ∙ c.before.before.before.before.before.before.if1.false in
     let b = c.before.before.before.before.before.before.before.before.before.before.before.begin in
     let t = c.before.before.before.clear in
-    searching_end G ok every_document a.k a.allowance a.answers.now w₀ l.answers l.work l.p l.invariant.0 on a.work.now t.new.0 c.ending.result
+    searching_end G ok a.k a.allowance a.answers.now w₀ l.answers l.work l.p l.invariant.0 on a.work.now t.new.0 c.ending.result
     (begun_rest G ok a.work.now w₀ b.result b.ensures) c.ending.ensures t.ensures
     ∙ ap (λ (f : Found Ended). found_into a.answers.now a.work.now (answered f))
-    (found-moves a.archive.now a.l o.opened a.q o.asked o.eight a.k a.allowance)
+    (found_moves a.archive.now a.l o.opened a.q o.asked o.eight a.k a.allowance)
 
 pub weighted-in-spec : {M : Type 1} → statement M
 weighted-in-spec =
