@@ -1,4 +1,6 @@
 // What questions answer, and the pairs, with or without a place, that they write into a lent slice.
+#![tactic(auto)]
+
 mod pairs;
 mod places;
 

@@ -1,4 +1,6 @@
 // The archive: its layout and the check on opening.
+#![tactic(auto)]
+
 use wavelet::Levels;
 
 mod check;

@@ -1,4 +1,6 @@
 // Ranges of an opened archive: where its terms start, the entries a up to but without b, and the terms f to l.
+#![tactic(auto)]
+
 mod ranges;
 mod terms;
 

@@ -1,4 +1,6 @@
 // Rank in a row of bits by its samples, a part of `bit_rows`.
+#![tactic(auto)]
+
 mod known;
 mod rank;
 

@@ -3,6 +3,8 @@
 //
 // Select counts from 1 and answers a place: n, one past the end, exactly where the row has fewer than j such bits (document 002, section 2; M-102).
 // Number 0 is answered as n too, and an empty row ends at 0. A walk over the places ends at n.
+#![tactic(auto)]
+
 mod blocks;
 mod check;
 mod write;

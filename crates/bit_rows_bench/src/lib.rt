@@ -1,4 +1,6 @@
 // What bench/bit_rows calls: operations of bit_rows under C names, with what those require and promise.
+#![tactic(auto)]
+
 ghost use Rattle.std.specs.Prelude.{◌≡◌, ◌++◌, ◌*◌, ◌≤◌, drop};
 ghost use Rattle.bits.specs.Bits.{bits_of, sample_count, samples_of, samples_right};
 ghost use Rattle.bits.specs.Rows.{Sized, Sampled};

@@ -1,5 +1,7 @@
 // Cases: each line of standard input is printed. One that begins with the name of an operation, and a space, makes an archive or asks a question, and
 // what is found follows it.
+#![tactic(auto)]
+
 mod archives;
 mod booleans;
 mod damaged;

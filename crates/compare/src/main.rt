@@ -1,5 +1,7 @@
 // Many random libraries, every pattern of terms and every short sequence of words and marks in a few small ones, and every rate of a small size, through
 // the code and beside a plain count over the list.
+#![tactic(auto)]
+
 mod archives;
 mod library;
 mod patterns;

@@ -1,4 +1,6 @@
 // Greedy top-k, move by move: the first documents of the ranking of a range, under an allowance of openings.
+#![tactic(auto)]
+
 mod node;
 mod run;
 pub mod step;

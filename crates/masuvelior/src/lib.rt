@@ -1,5 +1,7 @@
 // The operations under C names, for programs in other languages: bindings/c/masuvelior.h documents each. The answer is 0 or the number of the refusal;
 // out-parameters are written only where it is 0.
+#![tactic(auto)]
+
 mod archives;
 mod boolean_questions;
 mod conjunctions;

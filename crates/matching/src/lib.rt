@@ -1,4 +1,6 @@
 // A question with and, or, not, read and evaluated in one pass over 64 documents at a time (document 02, M-104). A set of documents is a word of 64 bits.
+#![tactic(auto)]
+
 mod parts;
 mod readings;
 

@@ -1,1 +1,2 @@
 // No code: the definitions that a reader must believe are in specs/, their laws in proofs/.
+#![tactic(auto)]

@@ -1,5 +1,7 @@
 // What searches by moves have in common: the moves, how far a search is, and how it ends. The laws are over any count of nodes, and any test for
 // the nodes that live.
+#![tactic(auto)]
+
 mod progress;
 
 pub use progress::{Progress, answer_of, ending, goes_on, listed, tell};

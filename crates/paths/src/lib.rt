@@ -1,4 +1,6 @@
 // The path of a search with several terms, from node to node of the tree.
+#![tactic(auto)]
+
 mod known;
 mod path;
 mod walk;

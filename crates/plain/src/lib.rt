@@ -1,5 +1,7 @@
 // The plain side of `compare`: the archive's bytes and every answer by counting over the list. It shares nothing with the code that it is held against,
 // and is proved safe, not right.
+#![tactic(auto)]
+
 pub mod archive;
 mod asked;
 pub mod boolean;

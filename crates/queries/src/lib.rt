@@ -1,5 +1,7 @@
 // The questions of an archive for a number, each with its refusals. A name that ends in `_opened` is the question of an archive that was opened before; one that
 // ends in `_in` is that without the refusals.
+#![tactic(auto)]
+
 mod entry;
 mod numbers;
 mod quantiles;

@@ -1,5 +1,7 @@
 // The count of a set of documents before a place, by one descent for the whole set (document 02, M-106). A name that ends in `_opened` is the question of an
 // archive that was opened before; one that ends in `_in` is that without the refusals.
+#![tactic(auto)]
+
 use wavelet::Place;
 
 mod nodes;

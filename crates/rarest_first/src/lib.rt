@@ -1,4 +1,6 @@
 // The rarest term first: each different term of a question once, in the order in which a weighted score is added up. Document 02, M-107.
+#![tactic(auto)]
+
 mod order;
 mod question;
 

@@ -1,4 +1,6 @@
 // From the bytes of an archive back to its list of entries: the reader.
+#![tactic(auto)]
+
 mod lists;
 mod rows;
 

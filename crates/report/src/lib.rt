@@ -1,4 +1,6 @@
 // The report of the program `shortlist`: the bytes that it writes, from the bytes that it reads.
+#![tactic(auto)]
+
 mod program;
 mod text;
 

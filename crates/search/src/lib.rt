@@ -1,4 +1,6 @@
 // What both searches for top-k take: the tree with the range in it, and a work slice that is cleared at the end.
+#![tactic(auto)]
+
 ghost use Rattle.std.specs.Prelude.{◌≡◌, ◌*◌, ◌≤◌, length, replicate};
 ghost use Rattle.model.specs.Lists.{overwrite};
 

@@ -1,4 +1,6 @@
 // The program of document 01: f, l, k and the allowance on standard input, then an archive; the shortlist on standard output.
+#![tactic(auto)]
+
 use libc::{STDERR_FILENO, STDIN_FILENO, STDOUT_FILENO};
 
 // One byte more than the most that is accepted tells a longer input.

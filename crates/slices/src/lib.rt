@@ -1,4 +1,6 @@
 // Numbers and slices without a bound to prove, for the programs of the gate: a place outside a slice reads as 0, and nothing is written there.
+#![tactic(auto)]
+
 mod bytes;
 mod numbers;
 mod shorts;

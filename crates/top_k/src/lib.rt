@@ -1,4 +1,6 @@
 // Top-k: the first documents of the ranking of a range, by the greedy search and by probing, each question with its refusals.
+#![tactic(auto)]
+
 mod operations;
 mod question;
 

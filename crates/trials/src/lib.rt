@@ -1,5 +1,7 @@
 // One question of each kind, drawn from a seed, the places of a document in turn, every pattern of terms among three, every short sequence of words and
 // marks, and every rate of a small size, through the code and beside the plain side's answer; differences are printed and counted.
+#![tactic(auto)]
+
 pub mod booleans;
 pub mod differences;
 mod edits;

@@ -1,4 +1,6 @@
 // Levels of rows as a wavelet tree. Counts and places of bits come from bit_rows' contracts alone.
+#![tactic(auto)]
+
 mod descent;
 mod halving;
 mod level;

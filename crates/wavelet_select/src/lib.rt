@@ -1,4 +1,6 @@
 // Select in a wavelet tree, of the whole list and of a range: down by the bits of a document to its leaf, and up by the places of bits.
+#![tactic(auto)]
+
 mod ascent;
 mod first;
 mod level;

@@ -1,6 +1,8 @@
 // Weighted top-k: the documents with an entry under some of the terms, by the sum of weight * count. Document 02, M-100 and M-101.
 // A name that ends in `_opened` is the question of an archive that was opened before; one that ends in `_in` is that without the
 // refusals, of different terms.
+#![tactic(auto)]
+
 mod question;
 mod run;
 mod score;
