@@ -8,7 +8,7 @@ pub use pairs::put_pair;
 pub use places::put_placed;
 
 // What a question for a number answers: the number, or the number of a refusal. A question for pairs answers how many they are.
-#[derive(Drop)]
+#[derive(Clone, Copy)]
 pub enum Answer {
     Number(u32),
     Refused(u32),

@@ -10,7 +10,7 @@ pub use check::open;
 pub use offsets::{archive_length, layout_in, layout_of, within_limits};
 
 // The layout of an opened archive: N, W, and where its levels lie, n and h with them.
-#[derive(Drop)]
+#[derive(Clone, Copy)]
 pub struct Layout {
     pub documents: usize,
     pub terms: usize,
@@ -18,7 +18,7 @@ pub struct Layout {
 }
 
 // What the check on opening answers: the layout of an accepted archive, n, N and W in it, or the number of a refusal.
-#[derive(Drop)]
+#[derive(Clone, Copy)]
 pub enum Opening {
     Accepted(Layout),
     Refused(u32),

@@ -8,7 +8,7 @@ pub use ranges::{entry_range, term_range};
 pub use terms::term_start;
 
 // A range: the entries from one place up to but without another, or the number of a refusal.
-#[derive(Drop)]
+#[derive(Clone, Copy)]
 pub enum Range {
     Entries { from: u32, to: u32 },
     Refused(u32),

@@ -8,14 +8,14 @@ ghost use Rattle.bit_select.specs.Search.{Reached, InWord, times_of};
 use bits::{bit, byte_ones, number, word, word_ones};
 
 // A byte of a row, and how many of the bits before it are of the wanted kind.
-#[derive(Drop)]
+#[derive(Clone, Copy)]
 pub struct Scan {
     byte: usize,
     before: usize,
 }
 
 // What is left of a word from a place on, and how many of the bits before that place are of the wanted kind.
-#[derive(Drop)]
+#[derive(Clone, Copy)]
 pub struct Left {
     bits: u64,
     place: usize,

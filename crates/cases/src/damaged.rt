@@ -4,7 +4,7 @@ use crate::numbers::Question;
 use crate::questions::ask;
 use slices::{plus, put_number};
 
-#[derive(Drop)]
+#[derive(Clone, Copy)]
 pub struct Part {
     pub start: u32,
     pub size: u32,

@@ -20,7 +20,7 @@ use numbers::{Question, question_of, read_numbers};
 use show::show;
 
 // Where a line begins in the input, and how many bytes the archive has.
-#[derive(Drop)]
+#[derive(Clone, Copy)]
 struct State {
     from: usize,
     size: u32,

@@ -5,7 +5,7 @@ use slices::plus;
 pub const NONE: u32 = 99;
 
 // The number of the name at hand, the place in the line, whether the two agree so far, and the number of the name that the line begins with.
-#[derive(Drop)]
+#[derive(Clone, Copy)]
 struct Seek {
     number: u32,
     at: u32,

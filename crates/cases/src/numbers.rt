@@ -2,7 +2,7 @@
 use slices::{at, minus, plus, put};
 
 // The number of an operation, and the first numbers of the line: 0 where there are fewer.
-#[derive(Drop)]
+#[derive(Clone, Copy)]
 pub struct Question {
     pub kind: u32,
     pub a: u32,

@@ -3,7 +3,7 @@ use slices::{plus, up};
 use trials::random::{below, draw};
 
 // n, N and W; how entries and how terms are drawn; how many questions of a group are asked.
-#[derive(Drop)]
+#[derive(Clone, Copy)]
 pub struct Shape {
     pub n: u32,
     pub documents: u32,

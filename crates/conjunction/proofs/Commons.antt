@@ -6,7 +6,7 @@ use native.Mathlib.Decide.{ℕ_discrete}
 use mathlib.Core.Path.{◌≡◌, sym, ap, ◌∙◌, subst}
 use mathlib.Core.Logic.{◌⊎◌, inl, inr}
 use mathlib.Core.List.{List, [], ◌∷◌}
-use mathlib.Core.Bool.{Bool, true, false, ◌&&◌, and_false}
+use mathlib.Core.Bool.{Bool, true, false, ◌&&◌, and-false}
 use lib.Dec.{ltb}
 use lib.ListN.{length, get_or}
 use Rattle.bits.specs.Sequences.{all, up_from, occurrences}
@@ -106,4 +106,4 @@ module _ (lib : Library) (h v : ℕ) where
       unmatched [] i l d e = absurd (omega arith)
       unmatched (t ∷ ts) zero l d e = rw e
       unmatched (t ∷ ts) (suc i) l d e =
-          ap (λ (b : Bool). ltb 0 (occurrences d (under lib t)) && b) (unmatched ts i (omega arith) d e) ∙ and_false (ltb 0 (occurrences d (under lib t)))
+          ap (λ (b : Bool). ltb 0 (occurrences d (under lib t)) && b) (unmatched ts i (omega arith) d e) ∙ and-false (ltb 0 (occurrences d (under lib t)))

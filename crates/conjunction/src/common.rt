@@ -12,14 +12,14 @@ use archive::Layout;
 use paths::{Terms, frame_of, open_node};
 
 // What the search for the next document answers: the document with the sum of its counts, or nothing.
-#[derive(Drop)]
+#[derive(Clone, Copy)]
 pub enum Next {
     Document { document: usize, count: usize },
     Nothing,
 }
 
 // A node of the tree: its level, and its number there.
-#[derive(Drop)]
+#[derive(Clone, Copy)]
 pub struct Node {
     pub level: usize,
     pub number: usize,

@@ -8,7 +8,7 @@ use frontier::Record;
 use wavelet::{Levels, Span};
 
 // The zero half and the one half of a node, as they wait.
-#[derive(Drop)]
+#[derive(Clone, Copy)]
 pub struct Two {
     pub zero: Record,
     pub one: Record,

@@ -12,14 +12,14 @@ ghost use Rattle.matching.specs.Parsing.{matching_of};
 use crate::readings::disjunction;
 
 // A part of a question: the set of its documents and the place after it, or that it has no reading.
-#[derive(Drop)]
+#[derive(Clone, Copy)]
 pub enum Parse {
     Parsed(u64, usize),
     Unread,
 }
 
 // The documents that match a question, of 64; or that it has no reading.
-#[derive(Drop)]
+#[derive(Clone, Copy)]
 pub enum Matching {
     Documents(u64),
     NoReading,

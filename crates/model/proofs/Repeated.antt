@@ -8,7 +8,7 @@ use mathlib.Core.Bool.{Bool, true, false, ◌&&◌, ◌||◌}
 use lib.ListN.{length, take}
 use lib.Seq.{take-length, length-take-le}
 use lib.Dec.{leb, ltb, eqb}
-use borrow.Author.Tests.{le-ltb, eqb-true, not_false}
+use borrow.Author.Tests.{le-ltb, eqb-true, not-false}
 use Rattle.bits.proofs.Tests.{look, eqb_iff}
 use Rattle.model.specs.Lists.{keep, any, sort_by}
 use Rattle.model.specs.Distinct.{distinct}
@@ -76,7 +76,7 @@ any-distinct p [] = refl
 any-distinct p (x ∷ xs) = go (look (p x)) (any-distinct p xs)
   where
     dropped : p x ≡ false → (y : ℕ) → other x y ≡ false → p y ≡ false
-    dropped e y o = ap p (sym (eqb-true x y (not_false (eqb x y) o))) ∙ e
+    dropped e y o = ap p (sym (eqb-true x y (not-false (eqb x y) o))) ∙ e
 
     go : (p x ≡ true) ⊎ (p x ≡ false) → any p (distinct xs) ≡ any p xs → any p (distinct (x ∷ xs)) ≡ any p (x ∷ xs)
     go (inl e) i = rw e

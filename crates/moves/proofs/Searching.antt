@@ -7,7 +7,7 @@ use mathlib.Core.List.{List, [], ◌∷◌, ◌++◌}
 use mathlib.Core.Bool.{Bool, true, false, not, ◌&&◌}
 use lib.ListN.{length, drop, replicate, length-map, length-replicate}
 use lib.Dec.{ltb}
-use borrow.Author.Tests.{ltb-true, ltb-false, not_true, not_false}
+use borrow.Author.Tests.{ltb-true, ltb-false, not-true, not-false}
 use Rattle.bits.proofs.Tests.{and_both, and_cases}
 use Rattle.model.specs.Lists.{overwrite}
 use Rattle.model.specs.Outcome.{answered}
@@ -107,7 +107,7 @@ module _ (G : Ground) (ok : Sound G) (k allowance : ℕ) (out₀ w₀ out w : Li
 
   module _ (on : goes_on p k ≡ true) (room : 2 * min k G.documents ≤ length out₀) where
     fresh : p.spent ≡ false
-    fresh = not_true p.spent (and_both (not p.spent) (ltb 0 p.waiting && ltb p.listed k) on).0
+    fresh = not-true p.spent (and_both (not p.spent) (ltb 0 p.waiting && ltb p.listed k) on).0
 
     both : (ltb 0 p.waiting ≡ true) × (ltb p.listed k ≡ true)
     both = and_both (ltb 0 p.waiting) (ltb p.listed k) (and_both (not p.spent) (ltb 0 p.waiting && ltb p.listed k) on).1
@@ -169,7 +169,7 @@ module _ (G : Ground) (ok : Sound G) (k allowance : ℕ) (out₀ w₀ out w : Li
 
         go : (not p.spent ≡ false) ⊎ ((ltb 0 p.waiting && ltb p.listed k) ≡ false)
             → (p.spent ≡ true) ⊎ ((frontier_in G w p.waiting ≡ []) ⊎ (k ≤ p.listed))
-        go (inl d) = inl (not_false p.spent d)
+        go (inl d) = inl (not-false p.spent d)
         go (inr d) = inr (last (and_cases (ltb 0 p.waiting) (ltb p.listed k) d))
 
     -- the answer is read off the moves

@@ -7,7 +7,7 @@ mod progress;
 pub use progress::{Progress, answer_of, ending, goes_on, listed, tell};
 
 // Each move of the search names a document with its count, opens a node, or finds its allowance spent.
-#[derive(Drop)]
+#[derive(Clone, Copy)]
 pub enum Move {
     Names { document: u32, count: u32 },
     Opens { start: u32, height: u32 },
@@ -15,21 +15,21 @@ pub enum Move {
 }
 
 // A move, and how many nodes wait after it.
-#[derive(Drop)]
+#[derive(Clone, Copy)]
 pub struct Moved {
     pub made: Move,
     pub waiting: usize,
 }
 
 // How a search ended: so many documents listed, and the openings needed or the allowance.
-#[derive(Drop)]
+#[derive(Clone, Copy)]
 pub enum Ended {
     Done { listed: u32, openings: u32 },
     Spent { listed: u32, allowance: u32 },
 }
 
 // The answer to a question: how the search ended, or the number of a refusal.
-#[derive(Drop)]
+#[derive(Clone, Copy)]
 pub enum TopK {
     Done { listed: u32, openings: u32 },
     Spent { listed: u32, allowance: u32 },

@@ -7,7 +7,7 @@ ghost use Rattle.moves.specs.Results.{goes_on, after, RoomFor, Countable, writte
 use crate::{Ended, Move, Moved, TopK};
 
 // How far a search is: the nodes that wait, the pairs listed, the moves that opened a node, and whether the allowance was found spent.
-#[derive(Drop)]
+#[derive(Clone, Copy)]
 pub struct Progress {
     pub waiting: usize,
     pub listed: usize,

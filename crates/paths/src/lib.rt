@@ -10,14 +10,14 @@ pub use path::{frame_of, least, open_node, put_root};
 pub use walk::go_to;
 
 // The terms of a question: so many of the numbers, one to eight.
-#[derive(Drop)]
+#[derive(Clone, Copy)]
 pub struct Terms {
     pub numbers: [u32; 8],
     pub size: u32,
 }
 
 // A node of the tree: its level, and its number there.
-#[derive(Drop)]
+#[derive(Clone, Copy)]
 pub struct Node {
     pub level: usize,
     pub number: usize,

@@ -13,7 +13,7 @@ use archive_ranges::term_start;
 use wavelet::{Levels, Ranked, halve_range, rank_node};
 
 // How many entries a term has in the zero half and in the one half of a node.
-#[derive(Drop)]
+#[derive(Clone, Copy)]
 pub struct Sides {
     pub zero: usize,
     pub one: usize,

@@ -9,7 +9,7 @@ pub const DONE: u32 = 2;
 
 pub const SPENT: u32 = 3;
 
-#[derive(Drop)]
+#[derive(Clone, Copy)]
 pub struct Outcome {
     pub what: u32,
     pub x: u32,
@@ -18,7 +18,7 @@ pub struct Outcome {
 }
 
 // The kind of a question, its numbers, and how many numbers of the two slices are lent.
-#[derive(Drop)]
+#[derive(Clone, Copy)]
 pub struct Question {
     pub kind: u32,
     pub a: u32,
@@ -30,7 +30,7 @@ pub struct Question {
 }
 
 // n, N and W.
-#[derive(Drop)]
+#[derive(Clone, Copy)]
 pub struct Sizes {
     pub n: u32,
     pub documents: u32,

@@ -3,7 +3,7 @@ use crate::marks::{AND, CLOSES, NOT, OR, WORDS};
 use slices::{at, minus, plus, put};
 
 // How many marks wait on the stack, how many numbers are in postfix order, and how many of these are words.
-#[derive(Drop)]
+#[derive(Clone, Copy)]
 struct Filled {
     waiting: u32,
     placed: u32,

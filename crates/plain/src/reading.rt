@@ -3,7 +3,7 @@ use crate::marks::{AND, CLOSES, NOT, OPENS, OR, WORDS};
 use slices::{at, minus, plus};
 
 // What stands before a place. After `wrong` nothing gives a reading.
-#[derive(Drop)]
+#[derive(Clone, Copy)]
 struct Prefix {
     open: u32,
     operand: bool,

@@ -11,7 +11,7 @@ mod sets;
 pub use question::{rank_set, rank_set_in, rank_set_opened};
 
 // A place of a node, in its zero half and in its one half.
-#[derive(Drop)]
+#[derive(Clone, Copy)]
 pub struct Places {
     pub zero: Place,
     pub one: Place,

@@ -7,7 +7,7 @@ mod rows;
 pub use lists::{read, read_in, read_opened};
 
 // The reader's answer: n, N and W, or the number of a refusal.
-#[derive(Drop)]
+#[derive(Clone, Copy)]
 pub enum Reading {
     Read {
         entries: usize,

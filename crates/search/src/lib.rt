@@ -7,7 +7,7 @@ ghost use Rattle.model.specs.Lists.{overwrite};
 use wavelet::Levels;
 
 // What is searched: the levels of a tree over N documents, and in it the entries a up to but without b.
-#[derive(Drop)]
+#[derive(Clone, Copy)]
 pub struct Search {
     pub levels: Levels,
     pub documents: usize,

@@ -12,14 +12,14 @@ pub use operations::{
 use search::Search;
 
 // A question before the search: what is searched, or the number of a refusal.
-#[derive(Drop)]
+#[derive(Clone, Copy)]
 pub enum Query {
     Over(Search),
     Refused(u32),
 }
 
 // Probing's answer: so many documents listed, or the number of a refusal.
-#[derive(Drop)]
+#[derive(Clone, Copy)]
 pub enum Probed {
     Listed(u32),
     Refused(u32),

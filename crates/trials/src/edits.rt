@@ -5,7 +5,7 @@ use plain::marks::{AND, CLOSES, WORDS};
 use slices::{at, minus, plus, put};
 
 // What is done at a place: with another place, or with a number.
-#[derive(Drop)]
+#[derive(Clone, Copy)]
 struct Edit {
     how: u32,
     place: u32,

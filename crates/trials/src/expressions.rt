@@ -4,7 +4,7 @@ use plain::marks::{AND, CLOSES, NOT, OPENS, OR, WORDS};
 use slices::{minus, plus, put};
 
 // Words are drawn below a number. An operand begins with a bracket or with 'not' once in so many times, and so many brackets may be open at once.
-#[derive(Drop)]
+#[derive(Clone, Copy)]
 pub struct Style {
     pub words: u32,
     pub brackets: u32,

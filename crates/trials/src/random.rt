@@ -39,7 +39,7 @@ pub fn near(seed: u32, m: u32) -> u32 {
 }
 
 // Two ends of a range.
-#[derive(Drop)]
+#[derive(Clone, Copy)]
 pub struct Ends {
     pub first: u32,
     pub last: u32,

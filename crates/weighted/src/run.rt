@@ -20,7 +20,7 @@ use paths::{Node, Terms, put_root};
 use search::clear;
 
 // How far the search is, and where the path leads.
-#[derive(Drop)]
+#[derive(Clone, Copy)]
 pub struct Onward {
     pub progress: Progress,
     pub at: Node,

@@ -4,7 +4,7 @@ ghost use Rattle.paths.specs.Paths.{count_at};
 ghost use Rattle.weighted.specs.Totals.{total};
 
 // The sum of weight * count over the terms, and the sum of their counts: the node lives where that is not 0.
-#[derive(Drop)]
+#[derive(Clone, Copy)]
 pub struct Score {
     pub score: usize,
     pub entries: usize,

@@ -13,14 +13,14 @@ use moves::{Move, Moved};
 use paths::{Node, Terms, frame_of, go_to};
 
 // A half of a node as it waits, and whether it lives.
-#[derive(Drop)]
+#[derive(Clone, Copy)]
 pub struct Half {
     pub waits: Record,
     pub lives: bool,
 }
 
 // The zero half and the one half of a node.
-#[derive(Drop)]
+#[derive(Clone, Copy)]
 pub struct Two {
     pub zero: Half,
     pub one: Half,
@@ -128,7 +128,7 @@ fn open(
 }
 
 // A move that was made, how many nodes wait after it, and where the path leads.
-#[derive(Drop)]
+#[derive(Clone, Copy)]
 pub struct Stepped {
     pub moved: Moved,
     pub at: Node,

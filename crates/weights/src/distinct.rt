@@ -11,7 +11,7 @@ use crate::last::distinct_last;
 use wavelet::{Levels, Span, halve_known, ones};
 
 // Those of a node, and the ones of its level before its end.
-#[derive(Drop)]
+#[derive(Clone, Copy)]
 struct Walked {
     documents: usize,
     after: usize,

@@ -8,7 +8,7 @@ mod rows;
 pub use libraries::write;
 
 // The writer's answer: the archive's length in bytes, or the number of a refusal.
-#[derive(Drop)]
+#[derive(Clone, Copy)]
 pub enum Written {
     Length(usize),
     Refused(u32),

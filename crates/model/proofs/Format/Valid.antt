@@ -6,7 +6,7 @@ use mathlib.Core.List.{List, [], ◌∷◌}
 use mathlib.Core.Bool.{Bool, true, false, not, ◌&&◌}
 use lib.ListN.{length}
 use lib.Dec.{leb, eqb}
-use borrow.Author.Tests.{leb-true, leb-false, le-leb, lt-leb, eqb-true, eq-eqb, not_false}
+use borrow.Author.Tests.{leb-true, leb-false, le-leb, lt-leb, eqb-true, eq-eqb, not-false}
 use Rattle.bits.specs.Bits.{sum}
 use Rattle.bits.proofs.Tests.{and_both, or_neither}
 use Rattle.model.specs.Lists.{any, Within}
@@ -82,9 +82,9 @@ valid_archive lib bytes e =
     let c = refuse_answered 16 total (answered (encode lib)) bytes b.1 in
     let same = c.1 in (
       record {
-        limits = limits_of (sizes_of lib) (not_false (within_limits (sizes_of lib)) a.0);
+        limits = limits_of (sizes_of lib) (not-false (within_limits (sizes_of lib)) a.0);
         within = within_any lib.documents lib.entries b.0;
-        total = eqb-true (sum lib.lengths) (length lib.entries) (not_false (eqb (sum lib.lengths) (length lib.entries)) c.0);
+        total = eqb-true (sum lib.lengths) (length lib.entries) (not-false (eqb (sum lib.lengths) (length lib.entries)) c.0);
       },
       cc,
     )

@@ -7,7 +7,7 @@ use mathlib.Core.Bool.{true, not}
 use lib.ListN.{length, get_or, take, drop, length-map, length-drop}
 use lib.Seq.{take_all, take-add, drop-drop, length-take-le, get_or-drop}
 use lib.Dec.{leb, ltb, eqb}
-use borrow.Author.Tests.{eqb-true, not_false}
+use borrow.Author.Tests.{eqb-true, not-false}
 use Rattle.bits.specs.Sequences.{all, up_from, below}
 use Rattle.bits.specs.Bits.{concat, sum, bits_of, pack, little_endian, unused_clear, number_at, samples_of, samples_right, sample_count, row_bytes}
 use Rattle.bits.proofs.Tests.{and_both}
@@ -65,15 +65,15 @@ accepted bytes s e =
     let r9 = refuse_answered 9 (any (leb z.documents) (entries_at bytes z)) (answered z) s r8.1 in
     let same = r9.1 in (
       record {
-        edition = eqb-true (number_at bytes 0) 1 (not_false (eqb (number_at bytes 0) 1) r2.0);
-        limits = limits_of z (not_false (within_limits z) r3.0);
-        layout = not_false (pairs_hold bytes z) r4.0;
-        size = eqb-true (length bytes) (archive_length z) (not_false (eqb (length bytes) (archive_length z)) r5.0);
-        table = not_false (table_holds bytes z.entries 0 (below z.terms)) r6.0;
+        edition = eqb-true (number_at bytes 0) 1 (not-false (eqb (number_at bytes 0) 1) r2.0);
+        limits = limits_of z (not-false (within_limits z) r3.0);
+        layout = not-false (pairs_hold bytes z) r4.0;
+        size = eqb-true (length bytes) (archive_length z) (not-false (eqb (length bytes) (archive_length z)) r5.0);
+        table = not-false (table_holds bytes z.entries 0 (below z.terms)) r6.0;
         samples =
             λ j l.
-            all-up_from-at (λ j. samples_right z.entries (samples_at bytes z j) (row_at bytes z j)) 0 (row_count z) (not_false c7 r7.0) j (omega arith) (omega arith);
-        unused = λ j l. all-up_from-at (λ j. unused_clear z.entries (row_at bytes z j)) 0 (row_count z) (not_false c8 r8.0) j (omega arith) (omega arith);
+            all-up_from-at (λ j. samples_right z.entries (samples_at bytes z j) (row_at bytes z j)) 0 (row_count z) (not-false c7 r7.0) j (omega arith) (omega arith);
+        unused = λ j l. all-up_from-at (λ j. unused_clear z.entries (row_at bytes z j)) 0 (row_count z) (not-false c8 r8.0) j (omega arith) (omega arith);
         within = within_any z.documents (entries_at bytes z) r9.0;
       },
       cc,

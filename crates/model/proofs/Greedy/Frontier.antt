@@ -6,7 +6,7 @@ use mathlib.Core.Logic.{◌⊎◌, inl, inr}
 use mathlib.Core.List.{List, [], ◌∷◌, ◌++◌}
 use mathlib.Core.Bool.{Bool, true, false, not, cond}
 use lib.Dec.{eqb}
-use borrow.Author.Tests.{eqb-false, not_true}
+use borrow.Author.Tests.{eqb-false, not-true}
 use Rattle.bits.specs.Sequences.{bit, tally}
 use Rattle.bits.proofs.Tests.{look}
 use Rattle.bits.proofs.Tally.{tally-append, tally_same}
@@ -101,7 +101,7 @@ module _ (count : Node → ℕ) (lives : Node → Bool) where
           → Ahead (count m) (place m) (count n) (place n)
       go m g (inl h) = inl h
       go (node zero q) g (inr h) =
-          let d = eqb-false (start n) q (not_true (eqb (start n) q) g) in
+          let d = eqb-false (start n) q (not-true (eqb (start n) q) g) in
           inr (h.0, omega (arith, start_le_place n))
       go (node (suc l) q) g (inr h) = inr (h.0, omega (arith, start_le_place n))
 

@@ -4,7 +4,7 @@ use native.Mathlib.Omega.{arith}
 use mathlib.Core.Path.{◌≡◌, refl, sym, ap, ◌∙◌}
 use mathlib.Core.Logic.{◌⊎◌, inl, inr}
 use mathlib.Core.List.{List, [], ◌∷◌, ◌++◌, map}
-use mathlib.Core.Bool.{Bool, true, false, not, ◌&&◌, and_false}
+use mathlib.Core.Bool.{Bool, true, false, not, ◌&&◌, and-false}
 use lib.ListN.{length, get_or, take, length-take, length-map}
 use lib.Seq.{take-nil}
 use lib.Dec.{ltb, eqb}
@@ -126,7 +126,7 @@ module _ (N k : ℕ) (xs : List ℕ) (seen : ℕ → Bool) (candidates : List Pa
       ∙ tally_none (λ d. present (pair_of xs d) && not (seen d)) (λ d. left d (look (seen d))) (below N)))
     where
       left : (d : ℕ) → (seen d ≡ true) ⊎ (seen d ≡ false) → (present (pair_of xs d) && not (seen d)) ≡ false
-      left d (inl e) = rw e (and_false (present (pair_of xs d)))
+      left d (inl e) = rw e (and-false (present (pair_of xs d)))
       left d (inr e) = let l = h d e in rw (le-ltb 0 (occurrences d xs) (omega arith))
 
   -- k are held, and every document that is not seen has a count below the last one's
@@ -151,8 +151,8 @@ module _ (N k : ℕ) (xs : List ℕ) (seen : ℕ → Bool) (candidates : List Pa
           ∙ enter_late j u candidates (full ∙ some) held-sorted (rw (le-ltb c u.count (omega arith), ne_eqb c u.count (omega arith)))
 
       left : (d : ℕ) → (seen d ≡ true) ⊎ (seen d ≡ false) → (present (pair_of xs d) && (not (seen d) && not (ltb (occurrences d xs) g))) ≡ false
-      left d (inl e) = rw e (and_false (present (pair_of xs d)))
-      left d (inr e) = rw (e, lt-ltb (occurrences d xs) g (h d e)) (and_false (present (pair_of xs d)))
+      left d (inl e) = rw e (and-false (present (pair_of xs d)))
+      left d (inr e) = rw (e, lt-ltb (occurrences d xs) g (h d e)) (and-false (present (pair_of xs d)))
 
       rare : Every (λ u. ltb u.count g) (seen_of N xs other)
       rare =

@@ -8,7 +8,7 @@ use mathlib.Core.List.{List, [], ◌∷◌}
 use mathlib.Core.Bool.{Bool, true, false, not}
 use lib.ListN.{length, get_or}
 use lib.Dec.{leb, ltb, eqb}
-use borrow.Author.Tests.{ltb-false, leb-true, eqb-true, eq-eqb, not_false}
+use borrow.Author.Tests.{ltb-false, leb-true, eqb-true, eq-eqb, not-false}
 use Rattle.bits.proofs.Tests.{look, or_left, or_right, and_both, and_cases}
 use Rattle.model.specs.Lists.{Within}
 use Rattle.model.specs.Queries.{quantile, Pair, pair_of}
@@ -99,7 +99,7 @@ module _ {N k : ℕ} {xs : List ℕ} {g : ℕ} (pos : 0 < g) {seen : ℕ → Boo
     where
       go : (ltb 1 g ≡ false) ⊎ (not (settled k g candidates) ≡ false) → candidates ≡ full_list N k xs
       go (inl a) = swept_last (omega (arith, ltb-false 1 g a)) s
-      go (inr b) = swept_settled (not_false (settled k g candidates) b) s
+      go (inr b) = swept_settled (not-false (settled k g candidates) b) s
 
 -- a probe
 pub sweeping_probe : {N k : ℕ} {xs : List ℕ} {g : ℕ} → 0 < g → Within N xs → (r : ℕ) → r < length xs → (s : State)

@@ -4,7 +4,7 @@ use native.Mathlib.Omega.{arith}
 use mathlib.Core.Path.{◌≡◌, refl, sym, ap, ◌∙◌}
 use mathlib.Core.Logic.{◌⊎◌, inl, inr}
 use mathlib.Core.List.{List, [], ◌∷◌, ◌++◌, map}
-use mathlib.Core.Bool.{Bool, true, false, ◌&&◌, ◌||◌, or_false}
+use mathlib.Core.Bool.{Bool, true, false, ◌&&◌, ◌||◌, or-false}
 use lib.ListN.{length, take}
 use lib.Seq.{length-take-le}
 use lib.Dec.{leb, ltb, eqb}
@@ -48,7 +48,7 @@ pub rank-set-empty : (xs : List ℕ) (p : ℕ) → rank_set [] xs p ≡ 0
 rank-set-empty xs p = tally_none (member []) (λ d. refl) (take p xs)
 
 pub rank-set_single : (d : ℕ) (xs : List ℕ) (p : ℕ) → rank_set (d ∷ []) xs p ≡ rank d xs p
-rank-set_single d xs p = tally_same (member (d ∷ [])) (eqb d) (λ x. or_false (eqb x d) ∙ eqb_swap x d) (take p xs)
+rank-set_single d xs p = tally_same (member (d ∷ [])) (eqb d) (λ x. or-false (eqb x d) ∙ eqb_swap x d) (take p xs)
 
 -- what is in no list twice: a number beside a set that does not hold it
 apart_cons : (d : ℕ) (ds : List ℕ) → occurrences d ds ≡ 0 → Disjoint (d ∷ []) ds

@@ -4,7 +4,7 @@ use native.Mathlib.Omega.{arith}
 use mathlib.Core.Path.{◌≡◌, refl, sym, ap, ◌∙◌}
 use mathlib.Core.Logic.{◌⊎◌, inl, inr}
 use mathlib.Core.List.{List, [], ◌∷◌, ◌++◌}
-use mathlib.Core.Bool.{Bool, true, false, not, ◌||◌, or_false}
+use mathlib.Core.Bool.{Bool, true, false, not, ◌||◌, or-false}
 use lib.ListN.{length, get_or, length-append}
 use lib.Dec.{leb, ltb}
 use borrow.Author.Tests.{lt-ltb, le-ltb, ltb-false}
@@ -115,5 +115,5 @@ module _ (bytes : List ℕ) (lib : Library) (v : Valid lib) (holds : opened byte
       single : (d p : ℕ) → rank_set_result bytes (d ∷ []) p ≡ rank_result bytes d p
       single d p =
           of-set (d ∷ []) p (record { few = omega arith; ascends = refl })
-          ∙ (λ i. refuse 11 (or_false (leb N d) i || ltb n p) (answered (rank-set_single d lib.entries p i)))
+          ∙ (λ i. refuse 11 (or-false (leb N d) i || ltb n p) (answered (rank-set_single d lib.entries p i)))
           ∙ sym (ap (λ (o : Outcome Library). and_then o (λ y. refuse 11 (leb y.documents d || ltb (length y.entries) p) (answered (rank d y.entries p)))) holds)

@@ -3,7 +3,7 @@ use mathlib.Core.Bool.{true, false}
 use lib.ListN.{length}
 use lib.Dec.{eqb}
 use borrow.Author.Rules.{rules}
-use borrow.Author.Tests.{not_true, not_false, eq-eqb, ne_eqb}
+use borrow.Author.Tests.{not-true, not-false, eq-eqb, ne_eqb}
 use Rattle.bits.specs.Sequences.{below}
 use Rattle.model.specs.Format.{archive_length}
 use Rattle.model.specs.Opening.{pairs_hold, table_holds}
@@ -17,11 +17,11 @@ pairs-hold-requires c κs = search rules
 returns : tie.Need-returns
 returns c =
     let s = c.before.before.before.args in
-    let e : pairs_hold s.archive.now (sizes_in s.l) ≡ false = sym c.before.pairs-hold.ensures ∙ not_true c.before.pairs-hold.result c.if1.true in
+    let e : pairs_hold s.archive.now (sizes_in s.l) ≡ false = sym c.before.pairs-hold.ensures ∙ not-true c.before.pairs-hold.result c.if1.true in
     (rw e, tt)
 
 paired : (c : tie.Else1) → pairs_hold c.before.before.before.args.archive.now (sizes_in c.before.before.before.args.l) ≡ true
-paired c = sym c.before.pairs-hold.ensures ∙ not_false c.before.pairs-hold.result c.if1.false
+paired c = sym c.before.pairs-hold.ensures ∙ not-false c.before.pairs-hold.result c.if1.false
 
 archive-length-requires : tie.Need-archive-length-requires
 archive-length-requires c κs = search rules
@@ -41,7 +41,7 @@ returns-3 : tie.Need-returns-3
 returns-3 c =
     let s = c.before.before.before.before.before.before.before.args in
     let e : table_holds s.archive.now s.l.levels.entries 0 (below s.l.terms) ≡ false
-    = sym c.before.table-holds.ensures ∙ not_true c.before.table-holds.result c.if3.true in
+    = sym c.before.table-holds.ensures ∙ not-true c.before.table-holds.result c.if3.true in
     (rw (paired c.before.before.before.before, sized c.before.before, e), tt)
 
 check-levels-requires : tie.Need-check-levels-requires
@@ -51,7 +51,7 @@ returns-4 : tie.Need-returns-4
 returns-4 c =
     let s = c.before.before.before.before.before.before.before.before.args in
     let e : table_holds s.archive.now s.l.levels.entries 0 (below s.l.terms) ≡ true
-    = sym c.before.before.table-holds.ensures ∙ not_false c.before.before.table-holds.result c.before.if3.false in
+    = sym c.before.before.table-holds.ensures ∙ not-false c.before.before.table-holds.result c.before.if3.false in
     (rw (paired c.before.before.before.before.before, sized c.before.before.before, e) c.check-levels.ensures.0, c.check-levels.ensures.1)
 
 pub check-parts-spec : {M : Type 1} → statement M

@@ -1,7 +1,7 @@
 use mathlib.Core.Path.{◌≡◌, refl, sym, ap, ◌∙◌, subst}
 use mathlib.Core.Bool.{true, false}
 use borrow.Author.Rules.{rules}
-use borrow.Author.Tests.{not_true, not_false}
+use borrow.Author.Tests.{not-true, not-false}
 use Rattle.model.specs.Format.{Sizes, within_limits}
 use Rattle.model.specs.Opening.{sizes_at}
 use Rattle.archive.specs.Layout.{layout_of, Fitting}
@@ -44,7 +44,7 @@ sizes c =
 returns-3 : tie.Need-returns-3
 returns-3 c =
     let bytes = c.before.before.before.before.before.before.before.before.before.args.archive.now in
-    let e : within_limits (sizes_at bytes) ≡ false = ap within_limits (sizes c.before.before) ∙ sym c.before.within-limits.ensures ∙ not_true c.before.within-limits.result c.if3.true in
+    let e : within_limits (sizes_at bytes) ≡ false = ap within_limits (sizes c.before.before) ∙ sym c.before.within-limits.ensures ∙ not-true c.before.within-limits.result c.if3.true in
     (sym (limits_refused bytes c.before.before.before.before.before.before.before.if1.false (sym c.before.before.before.before.before.before.number.ensures.0 ∙ c.before.before.before.before.before.if2.false) e), tt)
 
 -- n, N and W, which are within their limits
@@ -52,7 +52,7 @@ abbrev read : tie.Else3 → Sizes
 read c = record { entries = c.before.before.before.before.number2.result; documents = c.before.before.before.number3.result; terms = c.before.before.number4.result }
 
 within : (c : tie.Else3) → within_limits (read c) ≡ true
-within c = sym c.before.within-limits.ensures ∙ not_false c.before.within-limits.result c.if3.false
+within c = sym c.before.within-limits.ensures ∙ not-false c.before.within-limits.result c.if3.false
 
 layout-of-requires : tie.Need-layout-of-requires
 layout-of-requires c κs =

@@ -3,7 +3,7 @@ use Prim.Native.Nat.{ℕ, ◌-◌, ◌≤◌}
 use mathlib.Core.Bool.{true, false}
 use native.Mathlib.Omega.{arith}
 use borrow.Author.Rules.{rules}
-use borrow.Author.Tests.{not_true, not_false}
+use borrow.Author.Tests.{not-true, not-false}
 use Rattle.bits.specs.Sequences.{all, up_from, below}
 use Rattle.archive.specs.Opening.{sampled_at}
 use Rattle.archive.proofs.Parts.{all_next, all_end}
@@ -29,7 +29,7 @@ returns : tie.Need-returns invariant-loop decreases-loop
 returns c =
     let s = c.before.before.before.before.before.before.args in
     let at = c.before.before.before.before.loop in
-    let e : sampled_at s.archive.now s.t at.j ≡ false = sym c.before.row-sampled.ensures ∙ not_true c.before.row-sampled.result c.if2.true in
+    let e : sampled_at s.archive.now s.t at.j ≡ false = sym c.before.row-sampled.ensures ∙ not-true c.before.row-sampled.result c.if2.true in
     rw (at.invariant.1, all_next (sampled_at s.archive.now s.t) at.j s.t.height c.before.before.if1.true, e)
 
 add-j : tie.Need-overflow-add-j invariant-loop decreases-loop
@@ -42,7 +42,7 @@ loop-again : tie.Need-loop-preserved invariant-loop decreases-loop
 loop-again c =
     let s = c.before.before.before.before.before.before.args in
     let at = c.before.before.before.before.loop in
-    let e : sampled_at s.archive.now s.t at.j ≡ true = sym c.before.row-sampled.ensures ∙ not_false c.before.row-sampled.result c.if2.false in
+    let e : sampled_at s.archive.now s.t at.j ≡ true = sym c.before.row-sampled.ensures ∙ not-false c.before.row-sampled.result c.if2.false in
     (omega arith, rw (at.invariant.1, all_next (sampled_at s.archive.now s.t) at.j s.t.height c.before.before.if1.true, e))
 
 returns-2 : tie.Need-returns-2 invariant-loop decreases-loop

@@ -2,7 +2,7 @@
 use borrow.Author.Rules.{rules}
 use native.Mathlib.Omega.{arith}
 use mathlib.Core.Path.{sym, ◌∙◌}
-use borrow.Author.Tests.{not_true, not_false}
+use borrow.Author.Tests.{not-true, not-false}
 use Rattle.model.specs.Opening.{contents}
 use Rattle.model.specs.Reading.{reading}
 use Rattle.archive.proofs.Opened.{fitting, documents-are}
@@ -17,7 +17,7 @@ returns : tie.Need-returns
 returns c =
     let s = c.before.before.before.before.before in
     let g = s.args in
-    comes_unread g.archive.now g.l s.requires g.question.now g.answers.now (sym c.before.has-reading.ensures ∙ not_true c.before.has-reading.result c.if1.true)
+    comes_unread g.archive.now g.l s.requires g.question.now g.answers.now (sym c.before.has-reading.ensures ∙ not-true c.before.has-reading.result c.if1.true)
 
 word-missing-requires : tie.Need-word-missing-requires
 word-missing-requires c κs = search rules
@@ -26,19 +26,19 @@ returns-2 : tie.Need-returns-2
 returns-2 c =
     let s = c.before.before.before.before.before.before.before in
     let g = s.args in
-    comes_missing g.archive.now g.l s.requires g.question.now g.answers.now (sym c.before.before.before.has-reading.ensures ∙ not_false c.before.before.before.has-reading.result c.before.before.if1.false) (sym c.before.word-missing.ensures ∙ c.if2.true)
+    comes_missing g.archive.now g.l s.requires g.question.now g.answers.now (sym c.before.before.before.has-reading.ensures ∙ not-false c.before.before.before.has-reading.result c.before.before.if1.false) (sym c.before.word-missing.ensures ∙ c.if2.true)
 
 returns-3 : tie.Need-returns-3
 returns-3 c =
     let s = c.before.before.before.before.before.before.before.before.before in
     let g = s.args in
-    comes_short g.archive.now g.l s.requires g.question.now g.answers.now (sym c.before.before.before.before.before.has-reading.ensures ∙ not_false c.before.before.before.before.before.has-reading.result c.before.before.before.before.if1.false) (sym c.before.before.before.word-missing.ensures ∙ c.before.before.if2.false) (omega arith)
+    comes_short g.archive.now g.l s.requires g.question.now g.answers.now (sym c.before.before.before.before.before.has-reading.ensures ∙ not-false c.before.before.before.before.before.has-reading.result c.before.before.before.before.if1.false) (sym c.before.before.before.word-missing.ensures ∙ c.before.before.if2.false) (omega arith)
 
 boolean-in-requires : tie.Need-boolean-in-requires
 boolean-in-requires c κs =
     let s = c.before.before.before.before.before.before.before.before.before.before in
     let g = s.args in
-    (s.requires, (sym c.before.before.before.before.before.before.has-reading.ensures ∙ not_false c.before.before.before.before.before.before.has-reading.result c.before.before.before.before.before.if1.false, sym c.before.before.before.before.word-missing.ensures ∙ c.before.before.before.if2.false, omega arith))
+    (s.requires, (sym c.before.before.before.before.before.before.has-reading.ensures ∙ not-false c.before.before.before.before.before.before.has-reading.result c.before.before.before.before.before.if1.false, sym c.before.before.before.before.word-missing.ensures ∙ c.before.before.before.if2.false, omega arith))
 
 cast-t11 : tie.Need-overflow-cast-t11
 cast-t11 c =
@@ -60,7 +60,7 @@ returns-4 : tie.Need-returns-4
 returns-4 c =
     let s = c.before.before.before.before.before.before.before.before.before.before.before.before.before in
     let g = s.args in
-    comes_found g.archive.now g.l s.requires g.question.now g.answers.now (sym c.before.before.before.before.before.before.before.before.before.has-reading.ensures ∙ not_false c.before.before.before.before.before.before.before.before.before.has-reading.result c.before.before.before.before.before.before.before.before.if1.false) (sym c.before.before.before.before.before.before.before.word-missing.ensures ∙ c.before.before.before.before.before.before.if2.false) (omega arith) c.before.before.boolean-in.result c.before.before.boolean-in.new.1.1.1.0 c.before.before.boolean-in.ensures
+    comes_found g.archive.now g.l s.requires g.question.now g.answers.now (sym c.before.before.before.before.before.before.before.before.before.has-reading.ensures ∙ not-false c.before.before.before.before.before.before.before.before.before.has-reading.result c.before.before.before.before.before.before.before.before.if1.false) (sym c.before.before.before.before.before.before.before.word-missing.ensures ∙ c.before.before.before.before.before.before.if2.false) (omega arith) c.before.before.boolean-in.result c.before.before.boolean-in.new.1.1.1.0 c.before.before.boolean-in.ensures
 
 pub boolean-opened-spec : {M : Type 1} → statement M
 boolean-opened-spec =

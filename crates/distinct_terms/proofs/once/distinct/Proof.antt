@@ -6,7 +6,7 @@ use mathlib.Core.Path.{◌≡◌, refl, sym, subst, ◌∙◌}
 use mathlib.Core.Logic.{⊎_elim}
 use mathlib.Core.List.{[], ◌∷◌}
 use lib.ListN.{length, take}
-use borrow.Author.Tests.{not_true, not_false}
+use borrow.Author.Tests.{not-true, not-false}
 use Rattle.model.specs.Distinct.{distinct}
 use Rattle.distinct_terms.proofs.Keeping.{Keeping, keeping_none, keeping_new, keeping_old}
 use Rattle.distinct_terms.proofs.once.distinct.Statement.{statement}
@@ -57,8 +57,8 @@ loop-again c =
     let inside : k.i < length g.t1.numbers = omega (arith, s.requires) in
     let said = c.before.stands-before.ensures in (
       ⊎_elim
-          (λ w. rw (w.2, w.3) (keeping_new g.t1.numbers k.i inside k.numbers k.size k.invariant.0 (omega arith) (sym said ∙ not_true c.before.stands-before.result w.0.taken)))
-          (λ w. rw (w.1, w.2) (keeping_old g.t1.numbers k.i inside k.numbers k.size k.invariant.0 (sym said ∙ not_false c.before.stands-before.result w.0.left)))
+          (λ w. rw (w.2, w.3) (keeping_new g.t1.numbers k.i inside k.numbers k.size k.invariant.0 (omega arith) (sym said ∙ not-true c.before.stands-before.result w.0.taken)))
+          (λ w. rw (w.1, w.2) (keeping_old g.t1.numbers k.i inside k.numbers k.size k.invariant.0 (sym said ∙ not-false c.before.stands-before.result w.0.left)))
           c.if1.branch,
       omega arith,
     )

@@ -3,7 +3,7 @@ use Prim.Native.Nat.{ℕ}
 use mathlib.Core.Path.{◌≡◌, refl, sym, ap, ◌∙◌, subst}
 use mathlib.Core.List.{[], ◌∷◌}
 use mathlib.Core.Bool.{Bool, true, false, not}
-use borrow.Author.Tests.{not_true, not_false}
+use borrow.Author.Tests.{not-true, not-false}
 use Rattle.model.specs.Outcome.{answered, refuse}
 use Rattle.model.specs.Format.{Sizes, within_limits, archive_length}
 use Rattle.model.proofs.Format.Valid.{limits_of}
@@ -21,7 +21,7 @@ abbrev sizes_of : tie.Start → Sizes
 sizes_of s = record { entries = s.args.n; documents = s.args.documents; terms = s.args.terms }
 
 within : (c : tie.Else1) → within_limits (sizes_of c.before.before) ≡ true
-within c = sym c.before.within-limits.ensures ∙ not_false c.before.within-limits.result c.if1.false
+within c = sym c.before.within-limits.ensures ∙ not-false c.before.within-limits.result c.if1.false
 
 within-limits-requires : tie.Need-within-limits-requires
 within-limits-requires c κs = search rules
@@ -30,7 +30,7 @@ returns : tie.Need-returns
 unfolding given
 returns c =
     let s = c.before.before in
-    let e : within_limits (sizes_of s) ≡ false = sym c.before.within-limits.ensures ∙ not_true c.before.within-limits.result c.if1.true in
+    let e : within_limits (sizes_of s) ≡ false = sym c.before.within-limits.ensures ∙ not-true c.before.within-limits.result c.if1.true in
     sym (ap (answer_for (sizes_of s) s.args.length.now) e)
 
 layout-of-requires : tie.Need-layout-of-requires

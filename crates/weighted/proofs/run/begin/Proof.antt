@@ -4,7 +4,7 @@ use native.Mathlib.Omega.{arith}
 use native.Mathlib.Nat.{zero-mul}
 use mathlib.Core.Path.{refl, sym, ◌∙◌}
 use borrow.Author.Rules.{rules}
-use borrow.Author.Tests.{not_true, not_false}
+use borrow.Author.Tests.{not-true, not-false}
 use Rattle.frontier.proofs.Callers.{heap-zero}
 use Rattle.weighted.specs.Grounds.{ground_of}
 use Rattle.weighted.proofs.Roots.{root_lives_lem, root_dead}
@@ -23,7 +23,7 @@ returns c =
     let h = c.before.before.half_of in
     record {
       heap = heap-zero g.work.now;
-      order = root_dead (ground_of g.archive.now g.l g.q) (sym h.ensures.lives ∙ not_true h.result.lives c.if1.true);
+      order = root_dead (ground_of g.archive.now g.l g.q) (sym h.ensures.lives ∙ not-true h.result.lives c.if1.true);
       rest = refl;
       size = refl;
     }
@@ -43,7 +43,7 @@ returns-2 c =
       heap = P.heap;
       order = P.order
           ∙ root_lives_lem (ground_of g.archive.now g.l g.q) h.result.waits h.ensures.waits
-          (sym h.ensures.lives ∙ not_false h.result.lives c.before.before.before.before.if1.false);
+          (sym h.ensures.lives ∙ not-false h.result.lives c.before.before.before.before.if1.false);
       rest = P.rest;
       size = P.size;
     }
