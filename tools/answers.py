@@ -18,8 +18,93 @@ TOKEN = re.compile(T)
 plain = lambda it: it.replace("_", "-")
 
 
+def clauses():
+    """The names of the clauses of each function, in order: {crate::module::name: (requires, ensures)}; None for one clause without a name."""
+    out = {}
+    for path in glob.glob("crates/*/src/**/*.rt", recursive=True):
+        crate, inner = re.match(r"crates/(\w+)/src/(.*)\.rt$", path).groups()
+        with open(path, encoding="utf-8") as f:
+            text = re.sub(r"(?m)//.*", "", f.read())
+        module = "" if inner in ("lib", "main") else inner.replace("/", "::").removesuffix("::mod") + "::"
+        for m in re.finditer(r"\bfn (\w+)", text):
+            end = text.find("\n{", m.end())
+            close = re.search(r"\{\n", text[m.end() :])
+            head = text[m.end() : end if end >= 0 else m.end()]
+            nxt = head.find("\nfn ")
+            names = {"requires": [], "ensures": []}
+            for kind, name in re.findall(r"(?m)^ *(requires|ensures)(?: (\w+))? \{", head):
+                names[kind].append(name or None)
+            out[f"{crate}::{module}{m[1]}"] = (names["requires"], names["ensures"])
+    return out
+
+
+CLAUSES = clauses()
+
+
+def by_name(parts, names):
+    """The parts of a path below .requires or .ensures, with a clause's name in place of its place in a tuple."""
+    n = len(names)
+    if n < 2 or None in names:
+        return parts
+    at = 0
+    while at < n - 1 and at < len(parts) and parts[at] == "1":
+        at += 1
+    if at == n - 1:
+        return [names[at], *parts[at:]]
+    if at < len(parts) and parts[at] == "0":
+        return [names[at], *parts[at + 1 :]]
+    return parts
+
+
+def split_tuple(text):
+    """The parts of a tuple in parentheses, or None."""
+    text = text.strip()
+    if not (text.startswith("(") and text.endswith(")")):
+        return None
+    depth, parts, last = 0, [], 1
+    for i, ch in enumerate(text):
+        depth += (ch in "([{") - (ch in ")]}")
+        if depth == 0 and i < len(text) - 1:
+            return None
+        if ch == "," and depth == 1:
+            parts.append(text[last:i].strip())
+            last = i + 1
+    parts.append(text[last:-1].strip())
+    if parts[-1] == "":
+        parts.pop()
+    return parts if len(parts) > 1 else None
+
+
+def as_record(body, names):
+    """An answer to a goal of several clauses, each under its name."""
+    n = len(names)
+    if n < 2 or None in names:
+        return body
+    depth, at = 0, 0
+    for m in re.finditer(r"[(\[{]|[)\]}]|(?<=\s)in(?=\s)", body):
+        if m[0] == "in":
+            if depth == 0:
+                at = m.end()
+        else:
+            depth += 1 if m[0] in "([{" else -1
+    head, tail = body[:at], body[at:]
+    parts = split_tuple(tail)
+    while parts and len(parts) < n:
+        more = split_tuple(parts[-1])
+        if more is None:
+            return body
+        parts[-1:] = more
+    if not parts or len(parts) < n:
+        return body
+    if len(parts) > n:
+        parts[n - 1 :] = ["(" + ", ".join(parts[n - 1 :]) + ")"]
+    return head + " record {\n" + "".join(f"      {a} = {b};\n" for a, b in zip(names, parts)) + "    }"
+
+
 class Function:
-    def __init__(self, of):
+    def __init__(self, of, name):
+        self.requires, self.ensures = CLAUSES.get(name, ([], []))
+        self.named = {}
         self.needs = {}
         self.order = []
         for old, new in of["needs"]:
@@ -34,6 +119,7 @@ class Function:
                 self.steps.setdefault(plain(old), new)
                 if callee:
                     self.callee[new] = of["params"].get(callee, [])
+                    self.named[new] = CLAUSES.get(callee, ([], []))
         self.loops = {plain(l[0][0]): (l[0][1], l[1], c) for l, c in zip(of["loops"], of["changed"])}
         self.typed = {}
         for each in of["typed"]:
@@ -49,22 +135,36 @@ def blocks(text):
 def flat(body, fn):
     """A term over the steps before a goal, with today's names: no step is counted back, each is named."""
     body = re.sub(r"\.before\b(?![\w-])", "", body)
+    # The names that stand for the record of the steps.
+    records = {"c"}
+    for name, of in re.findall(r"\blet ([\w']+) = ([\w']+) in\b", body):
+        if of in records:
+            records.add(name)
 
     def path(m):
         head, rest = m[1], m[2]
         parts = rest.split(".")[1:]
+        if head not in records:
+            return m[0]
         out = []
         i = 0
         while i < len(parts):
             p = parts[i]
             key = plain(p)
+            if i == 0 and key not in fn.steps and key.endswith("-lem"):
+                key = key.removesuffix("-lem")
             if i == 0 and key in fn.typed and i + 1 < len(parts) and parts[i + 1] in ("given", "type_inv", "type-inv"):
                 out += ["type_inv", fn.typed[key]]
                 i += 2
                 continue
+            if i == 0 and p == "requires":
+                return head + "".join("." + it for it in ["requires", *by_name(parts[1:], fn.requires)])
             if i == 0 and key in fn.steps and p not in ("args", "requires", "ranges"):
                 new = fn.steps[key]
                 out.append(new)
+                if i + 1 < len(parts) and parts[i + 1] == "ensures" and new in fn.named:
+                    out += ["ensures", *by_name(parts[i + 2 :], fn.named[new][1])]
+                    break
                 # the content of a lent place after the call goes by its name
                 if i + 1 < len(parts) and parts[i + 1] in ("new", "given", "auto", "type_inv") and new in fn.callee and fn.callee[new]:
                     word = {"given": "type_inv"}.get(parts[i + 1], parts[i + 1])
@@ -102,7 +202,7 @@ def turn(path, of, crate):
         text = f.read()
     folder = os.path.dirname(path)
     home = os.path.relpath(folder, f"crates/{crate}/proofs").replace("/", ".")
-    fn = Function(of)
+    fn = Function(of, f"{crate}::" + home.replace(".", "::"))
     uses, invs, answers, other, head = [], [], [], [], []
     for b in blocks(text):
         lines = b.split("\n")
@@ -169,7 +269,14 @@ def turn(path, of, crate):
             continue
         com = [l for l in lines[:sig] if l.startswith("--")]
         args = [a for a in args if a != "κs"]
-        done.append("\n".join(com + [f"pub {new} : goal.{new}"]) + "\n" + unfolding + f"{new} {' '.join(args)} ={flat(body, fn)}")
+        body = flat(body, fn)
+        if new.startswith("returns"):
+            body = as_record(body, fn.ensures)
+        elif new.endswith("-requires") or re.search(r"-requires-", new):
+            step = re.sub(r"-requires.*", "", new)
+            asked = fn.named.get(step) or next((v for k, v in fn.named.items() if k.startswith(step)), ([], []))
+            body = as_record(body, asked[0])
+        done.append("\n".join(com + [f"pub {new} : goal.{new}"]) + "\n" + unfolding + f"{new} {' '.join(args)} ={body}")
     texts = ["\n".join(l) for l in other]
     if done:
         needed = "\n".join(texts + done)

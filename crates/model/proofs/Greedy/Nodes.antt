@@ -2,7 +2,7 @@
 use Prim.Native.Nat.{ℕ, zero, suc, ◌+◌, ◌-◌, ◌*◌, ◌^◌, ◌≤◌, ◌<◌}
 use native.Mathlib.Omega.{arith}
 use native.Mathlib.Nat.{pow-suc, mul-one, zero-mul, zero-add, add-sub_of_le}
-use mathlib.Core.Path.{◌≡◌, refl, sym, ap, ap₂, ◌∙◌}
+use mathlib.Core.Path.{◌≡◌, refl, sym, ap, ap₂, subst, ◌∙◌}
 use mathlib.Core.Logic.{◌⊎◌, inl, inr}
 use mathlib.Core.List.{List, [], ◌∷◌, ◌++◌}
 use mathlib.Core.Bool.{Bool, true, false, ◌&&◌}
@@ -93,7 +93,8 @@ pub first_leaf : (l q : ℕ) → 1 ≤ tally (leafly (eqb (q * 2 ^ l))) (nodes l
 first_leaf zero q = rw (eq-eqb (q * 2 ^ 0) q (omega arith)) (omega arith)
 first_leaf (suc l) q =
     let e : q * 2 ^ suc l ≡ 2 * q * 2 ^ l = simp (pow-suc 2) (omega arith) in
-    rw e (omega (arith, first_leaf l (2 * q), tally-append (leafly (eqb (2 * q * 2 ^ l))) (nodes l (2 * q)) (nodes l (2 * q + 1))))
+    let P : ℕ → Type 0 = λ s. 1 ≤ tally (leafly (eqb s)) (nodes (suc l) q) in
+    subst P (sym e) (omega (arith, first_leaf l (2 * q), tally-append (leafly (eqb (2 * q * 2 ^ l))) (nodes l (2 * q)) (nodes l (2 * q + 1))))
 
 pub start_leaf : (n : Node) → 1 ≤ tally (leafly (eqb (start n))) (under n)
 start_leaf (node l q) = first_leaf l q

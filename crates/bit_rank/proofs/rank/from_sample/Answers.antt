@@ -17,5 +17,5 @@ returns c =
     let row = s.args.row.now in
     let t = (s.args.i - 1) / 512 in
     let p : 8 * (64 * t) ≡ 512 * t = omega arith in
-    let e = samples_at_lem s.args.n s.args.samples.now row s.requires.0.right t (omega arith) in
+    let e = samples_at_lem s.args.n s.args.samples.now row s.requires.sampled.right t (omega arith) in
     omega (arith, ap (count_below 1 row) p, e)

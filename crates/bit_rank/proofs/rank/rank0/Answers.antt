@@ -7,4 +7,4 @@ returns c =
     let s = c in
     let row = s.args.row.now in
     let i = s.args.i in
-    omega (arith, rank-bits_of 0 s.args.n row i s.requires.1, rank-bits_of 1 s.args.n row i s.requires.1, count_both row i)
+    omega (arith, rank-bits_of 0 s.args.n row i s.requires.i_le_n, rank-bits_of 1 s.args.n row i s.requires.i_le_n, count_both row i)

@@ -6,10 +6,10 @@ pub returns-then-i-n : goal.returns-then-i-n
 returns-then-i-n c =
     let s = c in
     let row = s.args.row.now in
-    omega (arith, rank-bits_of 1 s.args.n row s.args.i s.requires.1, count_le 1 row s.args.i)
+    omega (arith, rank-bits_of 1 s.args.n row s.args.i s.requires.i_le_n, count_le 1 row s.args.i)
 
 pub returns : goal.returns
 returns c =
     let s = c in
     let row = s.args.row.now in
-    omega (arith, rank-bits_of 1 s.args.n row s.args.i s.requires.1, count_le 1 row s.args.i)
+    omega (arith, rank-bits_of 1 s.args.n row s.args.i s.requires.i_le_n, count_le 1 row s.args.i)

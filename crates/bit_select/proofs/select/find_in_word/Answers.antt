@@ -13,13 +13,13 @@ narrow-half-requires c =
     let e : c.word.result ≡ word_at s.args.row.now k / 2 ^ (8 * k - 8 * k) = c.word.ensures ∙ sym (rw z (div-one (word_at s.args.row.now k))) in (
       omega arith,
       record {
-        kind = s.requires.0.kind;
+        kind = s.requires.reached.kind;
         small = omega arith;
         after = omega arith;
         room = omega arith;
         left = e;
-        counted = s.requires.0.counted;
-        fewer = s.requires.0.fewer;
+        counted = s.requires.reached.counted;
+        fewer = s.requires.reached.fewer;
       },
     )
 

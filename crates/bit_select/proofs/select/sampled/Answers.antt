@@ -11,13 +11,13 @@ of_kind-requires c =
     let s = c in
     let row = s.args.row.now in
     let t = s.args.t in
-    omega (arith, samples_at_lem s.args.n s.args.samples.now row s.requires.0.right t s.requires.1.1, count_le 1 row (512 * t))
+    omega (arith, samples_at_lem s.args.n s.args.samples.now row s.requires.sampled.right t s.requires.v_bound.1, count_le 1 row (512 * t))
 
 pub returns : goal.returns
 returns c =
     let s = c in
     let row = s.args.row.now in
     let t = s.args.t in
-    let e = c.number.ensures.0 ∙ samples_at_lem s.args.n s.args.samples.now row s.requires.0.right t s.requires.1.1 in
-    let k = count_kind s.args.v row (512 * t) s.requires.1.0 in
+    let e = c.number.ensures.0 ∙ samples_at_lem s.args.n s.args.samples.now row s.requires.sampled.right t s.requires.v_bound.1 in
+    let k = count_kind s.args.v row (512 * t) s.requires.v_bound.0 in
     (c.of_kind.ensures.0 ∙ ap (of_kind s.args.v (512 * t)) e ∙ k, c.of_kind.ensures.1)

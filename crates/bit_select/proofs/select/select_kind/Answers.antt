@@ -25,5 +25,7 @@ returns-then-n-eq0 c =
 
 pub select_blocks-requires : goal.select_blocks-requires
 select_blocks-requires c =
-    let s = c in
-    (s.requires.0, (s.requires.1, omega arith, omega arith, omega (arith, count-zero s.args.v s.args.row.now)))
+    let s = c in record {
+      sampled = s.requires.sampled;
+      v_bound = (s.requires.v_bound, omega arith, omega arith, omega (arith, count-zero s.args.v s.args.row.now));
+    }

@@ -7,12 +7,12 @@ pub select_blocks-requires : goal.select_blocks-requires
 select_blocks-requires c =
     let s = c in
     let g = s.args in
-    let row = g.row.now in (
-      s.requires.0,
-      (
-        s.requires.1.0,
+    let row = g.row.now in record {
+      sampled = s.requires.sampled;
+      v_bound = (
+        s.requires.v_bound.0,
         omega arith,
         omega arith,
         omega (arith, rank-bits_of g.v g.n row g.a (omega arith), count_mono g.v row (512 * (g.a / 512)) g.a (omega arith)),
-      ),
-    )
+      );
+    }
