@@ -88,6 +88,10 @@ def as_record(body, names):
         else:
             depth += 1 if m[0] in "([{" else -1
     head, tail = body[:at], body[at:]
+    more = re.match(r"(\s*rw (?:\([^()]*(?:\([^()]*\)[^()]*)*\)|\S+)\s+)(\(.*)$", tail, re.S)
+    close = ""
+    if more and split_tuple(more[2]):
+        head, tail, close = head + more[1] + "(", more[2], ")"
     parts = split_tuple(tail)
     while parts and len(parts) < n:
         more = split_tuple(parts[-1])
@@ -98,7 +102,7 @@ def as_record(body, names):
         return body
     if len(parts) > n:
         parts[n - 1 :] = ["(" + ", ".join(parts[n - 1 :]) + ")"]
-    return head + " record {\n" + "".join(f"      {a} = {b};\n" for a, b in zip(names, parts)) + "    }"
+    return head + ("" if close else " ") + "record {\n" + "".join(f"      {a} = {b};\n" for a, b in zip(names, parts)) + "    }" + close
 
 
 class Function:
@@ -139,6 +143,13 @@ def flat(body, fn):
     for name, of in re.findall(r"\blet ([\w']+) = ([\w']+)(?:\.before)* in\b", body):
         if of in records:
             records.add(name)
+
+    # What names a part of a tuple of clauses is written out, so that each clause can be cited by its name.
+    for name, of in re.findall(r"\blet ([\w']+) = ((?:[\w']+)(?:\.[^\s(){}.;,]+)*\.(?:requires|ensures)(?:\.\d)*) in\b", body):
+        if of.split(".")[0] in records:
+            body, n = re.subn(rf"(?<![\w.'-]){re.escape(name)}(?=\.\d)", of, body)
+            if n and not re.search(rf"(?<![\w.'-]){re.escape(name)}(?![\w'-])(?! = )", body):
+                body = re.sub(rf"[ \n]*\blet {re.escape(name)} = {re.escape(of)} in\b", "", body)
 
     def path(m):
         head, rest = m[1], m[2]
