@@ -18,6 +18,9 @@ TOKEN = re.compile(T)
 plain = lambda it: it.replace("_", "-")
 
 
+PARAMS = {}
+
+
 def clauses():
     """The names of the clauses of each function, in order: {crate::module::name: (requires, ensures)}; None for one clause without a name."""
     out = {}
@@ -35,6 +38,8 @@ def clauses():
             for kind, name in re.findall(r"(?m)^ *(requires|ensures)(?: (\w+))? \{", head):
                 names[kind].append(name or None)
             out[f"{crate}::{module}{m[1]}"] = (names["requires"], names["ensures"])
+            signature = re.search(r"\((.*?)\n?\)(?: ->|\n|$)", head, re.S)
+            PARAMS[f"{crate}::{module}{m[1]}"] = re.findall(r"(?:^|[(,\n]) *(?:mut )?(\w+):", signature[1]) if signature else []
     return out
 
 
@@ -88,10 +93,17 @@ def as_record(body, names):
         else:
             depth += 1 if m[0] in "([{" else -1
     head, tail = body[:at], body[at:]
-    more = re.match(r"(\s*rw (?:\([^()]*(?:\([^()]*\)[^()]*)*\)|\S+)\s+)(\(.*)$", tail, re.S)
     close = ""
-    if more and split_tuple(more[2]):
-        head, tail, close = head + more[1] + "(", more[2], ")"
+    more = re.match(r"\s*rw ", tail)
+    if more:
+        i, depth = more.end(), 0
+        while i < len(tail) and (depth or not tail[i].isspace()):
+            depth += (tail[i] in "([{") - (tail[i] in ")]}")
+            i += 1
+        while i < len(tail) and tail[i].isspace():
+            i += 1
+        if split_tuple(tail[i:]):
+            head, tail, close = head + tail[:i] + "(", tail[i:], ")"
     parts = split_tuple(tail)
     while parts and len(parts) < n:
         more = split_tuple(parts[-1])
@@ -129,6 +141,14 @@ class Function:
                     self.callee[new] = of["params"].get(callee, [])
                     self.named[new] = CLAUSES.get(callee, ([], []))
                     self.callee_name[new] = callee
+        # What an arm of a `match` or a `?` binds or says, by where it stood.
+        self.arms = []
+        for arm in of["arms"]:
+            if arm:
+                for field, old, at in arm[2]:
+                    it = (plain(old), at, arm[0], field)
+                    if at and it not in self.arms:
+                        self.arms.append(it)
         self.loops = {plain(l[0][0]): (l[0][1], l[1], c) for l, c in zip(of["loops"], of["changed"])}
         self.typed = {}
         for each in of["typed"]:
@@ -160,7 +180,7 @@ def flat(body, fn):
         if of in records and step not in ("args", "requires", "ranges", "before", "pre", "fits"):
             steps[name] = plain(step)
     # What names a part of a tuple of clauses is written out, so that each clause can be cited by its name.
-    for name, of in re.findall(r"\blet ([\w']+) = ((?:[\w']+)(?:\.[^\s(){}.;,]+)*\.(?:requires|ensures)(?:\.\d)*) in\b", body):
+    for name, of in re.findall(r"\blet ([\w']+) = ((?:[\w']+)(?:\.[^\s(){}.;,]+)*\.(?:requires|ensures|given)(?:\.\d)*) in\b", body):
         if of.split(".")[0] in records:
             body, n = re.subn(rf"(?<![\w.'-]){re.escape(name)}(?=\.\d)", of, body)
             if n and not re.search(rf"(?<![\w.'-]){re.escape(name)}(?![\w'-])(?! = )", body):
@@ -185,6 +205,13 @@ def flat(body, fn):
             key = plain(p)
             if i == 0 and key not in fn.steps and key.endswith("-lem"):
                 key = key.removesuffix("-lem")
+            if i == 0 and key not in fn.steps and key.lower() in fn.steps:
+                key = key.lower()
+            if i == 0 and key == "well-formed":
+                return head + ".well_formed" + "".join("." + it for it in parts[1:])
+            arm = next((it for it in fn.arms if i == 0 and it[0] == key and parts[1 : 1 + len(it[1])] == it[1]), None)
+            if arm:
+                return head + "".join("." + it for it in [arm[2], arm[3], *parts[1 + len(arm[1]) :]])
             if i == 0 and key in fn.typed and i + 1 < len(parts) and parts[i + 1] in ("given", "type_inv", "type-inv"):
                 out += ["type_inv", fn.typed[key]]
                 i += 2
@@ -205,7 +232,10 @@ def flat(body, fn):
             i += 1
         return head + "".join("." + p for p in out)
 
-    body = re.sub(r"(?<![\w.'-])([a-z][\w']*)((?:\.[^\s(){}.;,@\"«»\[\]]+)+)", path, body)
+    body = re.sub(r"(?<![\w.'-])([A-Za-z][\w']*)((?:\.«?[^\s(){}.;,@\"«»\[\]]+»?)+)", path, body)
+    # A parameter that was named by its place.
+    params = PARAMS.get(fn.name, [])
+    body = re.sub(r"(?<=\.)t(\d+)(?=[\s.,)])", lambda m: params[int(m[1]) - 1] if m[0] not in params and 0 < int(m[1]) <= len(params) else m[0], body)
     # A test of `!b` says today itself that b is false, or true.
     body = re.sub(r"\bnot-(?:true|false) (?:\([^()]*\)|\S+) (\S*\.if-not-\S+\.(?:true|false))", r"\1", body)
     return with_local(body, fn)
