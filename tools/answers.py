@@ -157,7 +157,7 @@ class Function:
 
 
 # The place in the code of which an older answer or law speaks.
-PLACE = r"(?:tie|[\w-]+-lts)\.(?:After|Else|Then|In|At|Start|Came)[^\s()]*(?: \([\w-]+ t\) \([\w-]+ t\) [\w-]+\.Post)?"
+PLACE = r"(?:tie|[\w-]+-lts)\.(?:After|Else|Then|In|At|Start|Came)[^\s()]*(?: \([\w-]+ t\) \([\w-]+ t\) [\w-]+\.Post|(?: (?:invariant|decreases)-[^\s()]+)+)?"
 T0 = r"(?:\(t : ℕ\) )?"
 NEED = re.compile(r": (?:tie|\(t : ℕ\) → [\w-]+-lts)\.Need-(\S+)")
 
@@ -335,6 +335,7 @@ def unfolded_modules(text):
         out.append("\n".join(lines))
     text = "\n\n".join(out)
     # a name for the record of an earlier place is that record
+    text = re.sub(r"(?m)^(abbrev \S+ : )(tie\.\S+)(?= → tie\.)", r"\1(c : \2)", text)
     for name in re.findall(r"(?m)^abbrev (\S+) : \(c : \S+\) → tie\.\S+\n\1 c = c(?:\.before)*$", text):
         text = re.sub(rf"(?m)^abbrev {re.escape(name)} : \(c : \S+\) → tie\.\S+\n{re.escape(name)} c = c(?:\.before)*$\n*", "", text)
         text = re.sub(rf"\({re.escape(name)} [a-z](?:\.before)*\)", "c", text)
@@ -420,15 +421,17 @@ def turn(path, of, crate, name, cycle):
     rest = []
     for lines in other:
         text_of = "\n".join(l for l in lines if not l.startswith("--"))
-        m = re.match(r"(?:abbrev )?(\S+) : " + T0 + r"\(c : " + PLACE + r"\)\s*→ (.*?)\n(\1(?: t)? c\b.*)$", text_of, re.S)
-        m2 = re.match(r"(?:abbrev )?(\S+) : " + PLACE + r" → ([^\n]*)\n(\1 c\b.*)$", text_of, re.S)
+        m = re.match(r"(?:abbrev )?(\S+) : " + T0 + r"\((\w+) : " + PLACE + r"\)((?: \([^:()]+ : [^()]*\))*)\s*→ (.*?)\n(\1(?: t)? \2\b.*)$", text_of, re.S)
+        m2 = re.match(r"(?:abbrev )?(\S+) : " + PLACE + r" → ([^\n]*)\n(\1 (\w+)\b.*)$", text_of, re.S)
         if m:
-            name, type, eq = m[1], m[2], m[3]
+            name, type, eq, var = m[1], (m[3] + " → " if m[3] else "") + m[4], m[5], m[2]
         elif m2:
-            name, type, eq = m2[1], m2[2], m2[3]
+            name, type, eq, var = m2[1], m2[2], m2[3], m2[4]
         else:
             rest.append(lines)
             continue
+        if var != "c":
+            type, eq = (re.sub(rf"(?<![\w.'-]){var}(?![\w'-])", "c", it) for it in (type, eq))
         eq_head, body = re.split(r" =(?=[ \n])", eq, 1)
         args = [a for a in eq_head.split()[1:] if a not in ("c", "t")]
         # more premises become a function
