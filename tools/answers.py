@@ -157,7 +157,7 @@ class Function:
 
 
 # The place in the code of which an older answer or law speaks.
-PLACE = r"(?:tie|[\w-]+-lts)\.(?:After|Else|Then|In|At|Start|Came)[^\s()]*(?: \([\w-]+ t\) \([\w-]+ t\) [\w-]+\.Post|(?: (?:invariant|decreases)-[^\s()]+)+)?"
+PLACE = r"(?:tie|[\w-]+-lts)\.(?:After|Else|Then|In|At|Start|Came|Joined)[^\s()]*(?: \([\w-]+ t\) \([\w-]+ t\) [\w-]+\.Post|(?: (?:invariant|decreases)-[^\s()]+)+)?"
 T0 = r"(?:\(t : ℕ\) )?"
 NEED = re.compile(r": (?:tie|\(t : ℕ\) → [\w-]+-lts)\.Need-(\S+)")
 
@@ -248,6 +248,8 @@ def of_step(parts, new, fn):
     """What stands behind the name of a step: a clause by its name, the content of a lent place by the parameter's."""
     if not parts:
         return []
+    if any(new == loop and parts[0] in names for loop, names, _ in fn.loops.values()):
+        return parts
     first = OLD.get(parts[0], parts[0]) if parts[0] in ("given",) or new.startswith(("if-", "loop-")) or parts[0] in ("last", "kept") else parts[0]
     if first == "ensures" and new in fn.named:
         return ["ensures", *by_name(parts[1:], fn.named[new][1])]
@@ -268,7 +270,7 @@ def with_local(body, fn):
         for name in fn.local:
             if name not in used and re.search(rf"(?<![\w.'-]){re.escape(name)}(?![\w'-])", text):
                 used.append(name)
-                look(fn.local[name][0] + fn.local[name][1])
+                look(fn.local[name][0] + " " + fn.local[name][1])
 
     look(body)
     if not used:

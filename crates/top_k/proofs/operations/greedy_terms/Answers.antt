@@ -1,0 +1,11 @@
+-- `greedy_terms`: the opening is refused, or the question is that of the opened archive.
+use Rattle.archive.proofs.Acceptance.{opened_of, refused_of}
+use Rattle.top_k.proofs.operations.greedy_terms.Goals as goal
+
+pub greedy_terms_opened-requires : goal.greedy_terms_opened-requires
+greedy_terms_opened-requires c =
+    opened_of c.args.archive.now c.open.ensures c.in-Accepted.layout c.in-Accepted.is
+
+pub returns-in-Refused : goal.returns-in-Refused
+returns-in-Refused c =
+    rw (refused_of c.args.archive.now c.open.ensures c.in-Refused.number c.in-Refused.is)

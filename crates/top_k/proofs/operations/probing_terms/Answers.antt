@@ -1,0 +1,11 @@
+-- `probing_terms`: the opening is refused, or the question is that of the opened archive.
+use Rattle.archive.proofs.Acceptance.{opened_of, refused_of}
+use Rattle.top_k.proofs.operations.probing_terms.Goals as goal
+
+pub probing_terms_opened-requires : goal.probing_terms_opened-requires
+probing_terms_opened-requires c =
+    opened_of c.args.archive.now c.open.ensures c.in-Accepted.layout c.in-Accepted.is
+
+pub returns-in-Refused : goal.returns-in-Refused
+returns-in-Refused c =
+    rw (refused_of c.args.archive.now c.open.ensures c.in-Refused.number c.in-Refused.is)
