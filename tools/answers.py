@@ -237,7 +237,7 @@ def flat(body, fn):
     params = PARAMS.get(fn.name, [])
     body = re.sub(r"(?<=\.)t(\d+)(?=[\s.,)])", lambda m: params[int(m[1]) - 1] if m[0] not in params and 0 < int(m[1]) <= len(params) else m[0], body)
     # A test of `!b` says today itself that b is false, or true.
-    body = re.sub(r"\bnot[-_](?:true|false) (?:\([^()]*\)|\S+) (\S*\.if-not-\S+\.(?:true|false))", r"\1", body)
+    body = re.sub(r"\bnot[-_](?:true|false) (?:_|\S+\.result) (\S*\.if-not-\S+\.(?:true|false))", r"\1", body)
     return with_local(body, fn)
 
 
@@ -415,8 +415,17 @@ def turn(path, of, crate, name, cycle):
             name = f"{kind}-{new.removeprefix('loop-') if False else new}"
             com = [l for l in lines[:sig] if l.startswith("--")]
             out.append("\n".join(com + [f"abbrev pub {name} : goal.{name}", f"{name} l ={substitute(body, names)}"]))
+        # an abbreviation that an invariant names
+        named = ["\n".join(l) for l in other if re.match(r"(?:--[^\n]*\n)*abbrev (\S+) : (?!.*tie\.)", "\n".join(l))]
+        word = lambda b: re.escape(re.search(r"abbrev (?:pub )?(\S+) :", b)[1])
+        named = [b for b in named if re.search(rf"(?<![\w.'-]){word(b)}(?![\w'-])", "\n".join(out))]
+        out[1:1] = [re.sub(r"(?m)^abbrev (?!pub)", "abbrev pub ", b) for b in named]
+        if named:
+            shared = [re.search(r"abbrev (\S+) :", b)[1] for b in named]
+            uses.append(f"use Rattle.{crate}.proofs.{home}.Invariants.{{{', '.join(shared)}}}")
+            other = [l for l in other if not any("\n".join(l) == re.sub(r"(?m)^abbrev pub ", "abbrev ", b) or "\n".join(l) == b for b in named)]
         needed = "\n".join(out)
-        kept = trimmed(uses, needed)
+        kept = trimmed([u for u in uses if not u.startswith(f"use Rattle.{crate}.proofs.{home}.Invariants.")], needed)
         with open(os.path.join(folder, "Invariants.antt"), "w", encoding="utf-8") as f:
             f.write("\n".join(kept + out[:1]) + "\n\n" + "\n\n".join(out[1:]) + "\n")
     done = []

@@ -1,0 +1,15 @@
+use Prim.Native.Nat.{ℕ, ◌-◌}
+use mathlib.Core.List.{List}
+use Rattle.model.specs.Opening.{contents}
+use Rattle.model.specs.Weighted.{weighed_term}
+use Rattle.paths.proofs.Filling.{Filling}
+use Rattle.weighted.proofs.weigh.weigh.Given as goal
+
+abbrev pub weight_of : List ℕ → ℕ → ℕ
+weight_of bytes t = (weighed_term (contents bytes) t).weight
+
+abbrev pub invariant-loop-k : goal.invariant-loop-k
+invariant-loop-k l = Filling (weight_of l.archive) l.q l.weights l.k
+
+abbrev pub decreases-loop-k : goal.decreases-loop-k
+decreases-loop-k l = l.q.size - l.k
