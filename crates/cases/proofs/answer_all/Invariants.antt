@@ -5,7 +5,7 @@ use mathlib.Core.Path.{◌≡◌}
 use Rattle.cases.proofs.answer_all.Given as goal
 
 abbrev pub invariant-loop-i : goal.invariant-loop-i
-invariant-loop-i l = (l.bytes.from ≤ l.s) × (length l.initial.i ≡ length l.initial.bytes)
+invariant-loop-i l = (l.s.from ≤ l.i) × (length l.bytes ≡ length l.initial.bytes)
 
 abbrev pub decreases-loop-i : goal.decreases-loop-i
-decreases-loop-i l = length l.input - l.s
+decreases-loop-i l = length l.input - l.i

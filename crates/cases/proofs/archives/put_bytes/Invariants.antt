@@ -5,7 +5,7 @@ use mathlib.Core.Path.{◌≡◌}
 use Rattle.cases.proofs.archives.put_bytes.Given as goal
 
 abbrev pub invariant-loop-i : goal.invariant-loop-i
-invariant-loop-i l = length l.initial.i ≡ length l.initial.bytes
+invariant-loop-i l = length l.bytes ≡ length l.initial.bytes
 
 abbrev pub decreases-loop-i : goal.decreases-loop-i
-decreases-loop-i l = l.out - l.bytes
+decreases-loop-i l = l.size - l.i
