@@ -237,7 +237,7 @@ def flat(body, fn):
     params = PARAMS.get(fn.name, [])
     body = re.sub(r"(?<=\.)t(\d+)(?=[\s.,)])", lambda m: params[int(m[1]) - 1] if m[0] not in params and 0 < int(m[1]) <= len(params) else m[0], body)
     # A test of `!b` says today itself that b is false, or true.
-    body = re.sub(r"\bnot-(?:true|false) (?:\([^()]*\)|\S+) (\S*\.if-not-\S+\.(?:true|false))", r"\1", body)
+    body = re.sub(r"\bnot[-_](?:true|false) (?:\([^()]*\)|\S+) (\S*\.if-not-\S+\.(?:true|false))", r"\1", body)
     return with_local(body, fn)
 
 
