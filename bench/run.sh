@@ -11,7 +11,7 @@ CXX=${CXX:-$(command -v clang++ || command -v g++)}
 flags="-std=c++17 -O3 -DNDEBUG -Wall -Wextra -Wno-address"
 mkdir -p build
 
-(cd "$root" && rt staticlib masuvelior) >build/staticlib.log 2>&1 || { tail build/staticlib.log; exit 1; }
+(cd "$root/crates/masuvelior" && rt lib) >build/staticlib.log 2>&1 || { tail build/staticlib.log; exit 1; }
 objects=
 peer() { # NAME TIGHT FLAGS
   for part in peer weighted boolean rank_set rarest_first; do
@@ -65,7 +65,7 @@ else
 fi
 
 $CXX $flags -c scan.cpp -o build/scan.o
-$CXX $flags $sdsl $before run.cpp build/scan.o $objects "$root/target/staticlib/libmasuvelior.a" -o build/run
+$CXX $flags $sdsl $before run.cpp build/scan.o $objects "$root/crates/masuvelior/out/libmasuvelior.a" -o build/run
 build/run verify
 [ -z "$VERIFY_ONLY" ] || exit 0
 build/run time "${1:-2}" build/results.csv build/openings.csv ${2:+"$2"} >build/results.md

@@ -1,11 +1,12 @@
 #!/usr/bin/env bash
 # The printed page docs/FORMAT.md beside the code: its list of tests is docs/format-tests.txt, its dumps are as tools/dump.sh prints them, and the program
-# `cases` answers each test as printed. Run after `rt check cases`; silent where all is well. With --fill it prints the tests with the code's answers.
+# `cases` answers each test as printed. Run after `rt ci`, or `rt run` in crates/cases; silent where all is well. With --fill it prints the tests with the code's answers.
 set -euo pipefail
 cd "$(dirname "$0")/.."
 page=docs/FORMAT.md
 tests=docs/format-tests.txt
-program=target/bin/cases
+program=crates/cases/out/cases
+[ -x "$program" ] || { echo "page.sh: no $program: run rt ci, or rt run in crates/cases, first" >&2; exit 1; }
 work=$(mktemp -d)
 trap 'rm -r "$work"' EXIT
 failed=0

@@ -4,8 +4,8 @@ set -e
 cd "$(dirname "$0")"
 root=$(cd ../.. && pwd)
 CXX=${CXX:-$(command -v clang++ || command -v g++)}
-(cd "$root" && rt staticlib bit_rows_bench >/dev/null)
+(cd "$root/crates/bit_rows_bench" && rt lib >/dev/null)
 mkdir -p "$root/target/bench"
 for f in peer run; do "$CXX" -std=c++17 -O3 $FLAGS -c $f.cpp -o "$root/target/bench/$f.o"; done
-"$CXX" "$root/target/bench/peer.o" "$root/target/bench/run.o" "$root/target/staticlib/libbit_rows_bench.a" -o "$root/target/bench/bit_rows"
+"$CXX" "$root/target/bench/peer.o" "$root/target/bench/run.o" "$root/crates/bit_rows_bench/out/libbit_rows_bench.a" -o "$root/target/bench/bit_rows"
 "$root/target/bench/bit_rows"

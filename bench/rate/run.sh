@@ -6,9 +6,9 @@ cd "$(dirname "$0")"
 root=$(cd ../.. && pwd)
 CXX=${CXX:-$(command -v clang++ || command -v g++)}
 out=$root/target/bench
-(cd "$root" && rt staticlib masuvelior >/dev/null)
+(cd "$root/crates/masuvelior" && rt lib >/dev/null)
 mkdir -p "$out"
 if [ -n "$BEFORE" ]; then ../before.sh "$BEFORE" "$out"; fi
 for f in peer run; do "$CXX" -std=c++17 -O3 ${BEFORE:+-DBEFORE} -I"$root/bindings/c" -c $f.cpp -o "$out/rate_$f.o"; done
-"$CXX" "$out/rate_peer.o" "$out/rate_run.o" "$root/target/staticlib/libmasuvelior.a" ${BEFORE:+"$out/before.a"} -o "$out/rate"
+"$CXX" "$out/rate_peer.o" "$out/rate_run.o" "$root/crates/masuvelior/out/libmasuvelior.a" ${BEFORE:+"$out/before.a"} -o "$out/rate"
 "$out/rate"

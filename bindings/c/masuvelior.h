@@ -1,6 +1,6 @@
 /* Masuvelior for C and for what links C: an archive of document numbers, its writer, reader and check, and the questions asked of it.
  *
- * The library is target/staticlib/libmasuvelior.a, which `rt staticlib masuvelior` proves and builds, for x86-64 Linux. It needs no other
+ * The library is crates/masuvelior/out/libmasuvelior.a, which `rt lib` in crates/masuvelior proves and builds, for x86-64 Linux. It needs no other
  * library than C's, of that memcpy and memset alone, has no state, allocates nothing and may be called from several threads at once. Of the
  * stack a call takes up to 25 KB (masuvelior_write), 22 KB (masuvelior_boolean, masuvelior_list and masuvelior_list_terms), 17 KB
  * (masuvelior_read), 7 KB (masuvelior_weighted), 6 KB (masuvelior_rank_set, the greedy search and probing) or 4 KB (all others), each of

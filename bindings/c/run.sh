@@ -1,10 +1,10 @@
 #!/usr/bin/env bash
 # Builds and runs over the static library the C example and the measure of the stack, and, where there is a C++ compiler, the one with vectors.
-# Wants `rt staticlib masuvelior` to have been run.
+# Wants `rt lib` to have been run in crates/masuvelior.
 set -euo pipefail
 cd "$(dirname "$0")"
-library=../../target/staticlib/libmasuvelior.a
-[ -f "$library" ] || { echo "run.sh: no $library: run rt staticlib masuvelior first" >&2; exit 1; }
+library=../../crates/masuvelior/out/libmasuvelior.a
+[ -f "$library" ] || { echo "run.sh: no $library: run rt lib in crates/masuvelior first" >&2; exit 1; }
 out=../../target/bindings
 mkdir -p "$out"
 strict=(-pedantic -Wall -Wextra -Werror)

@@ -1,4 +1,4 @@
-//! Links the proved library, which `rt staticlib masuvelior` writes.
+//! Links the proved library, which `rt lib` writes in crates/masuvelior.
 use std::env;
 use std::path::PathBuf;
 use std::process::exit;
@@ -12,7 +12,7 @@ fn main() {
     if !file.is_file() {
         eprintln!("{LIBRARY} is not in {}.", folder.display());
         eprintln!(
-            "Run `rt staticlib masuvelior` in the repository, or set MASUVELIOR_LIB_DIR to the folder that has it."
+            "Run `rt lib` in the repository's crates/masuvelior, or set MASUVELIOR_LIB_DIR to the folder that has it."
         );
         exit(1);
     }
@@ -21,11 +21,11 @@ fn main() {
     println!("cargo:rustc-link-lib=static=masuvelior");
 }
 
-/// Where the library is: MASUVELIOR_LIB_DIR, or the repository's target/staticlib.
+/// Where the library is: MASUVELIOR_LIB_DIR, or the repository's crates/masuvelior/out.
 fn folder() -> PathBuf {
     match env::var_os("MASUVELIOR_LIB_DIR") {
         Some(folder) => PathBuf::from(folder),
         None => PathBuf::from(env::var_os("CARGO_MANIFEST_DIR").expect("cargo sets CARGO_MANIFEST_DIR"))
-            .join("../../target/staticlib"),
+            .join("../../crates/masuvelior/out"),
     }
 }

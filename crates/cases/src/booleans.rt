@@ -1,9 +1,10 @@
 // boolean ANSWERS 0 SIZE NUMBERS: a question with and, or, not, of so many numbers. It has more numbers than other questions, and its answer is one number for each document.
 use crate::show;
 use slices::{at, low, plus};
+use std::io::Stdout;
 
 // At most 70,000 numbers are asked, and 4,100 lent, so that 4,096 documents have room. The lent ones are nines, and are printed after the answer.
-pub fn ask(numbers: &[u32], archive: &[u8]) {
+pub fn ask(numbers: &[u32], archive: &[u8], out: Stdout) {
     let mut question = [0u16; 70000];
     let mut answers = [9u32; 4100];
     let from = 0;
@@ -20,13 +21,14 @@ pub fn ask(numbers: &[u32], archive: &[u8]) {
         archive,
         &mut question[from..k],
         &mut answers[from..m],
+        out,
     );
 }
 
-fn fill(numbers: &[u32], archive: &[u8], question: &mut [u16], answers: &mut [u32]) {
+fn fill(numbers: &[u32], archive: &[u8], question: &mut [u16], answers: &mut [u32], out: Stdout) {
     put_question(numbers, question);
-    show::answer(boolean::boolean(archive, question, answers));
-    show::lent(answers);
+    show::answer(boolean::boolean(archive, question, answers), out);
+    show::lent(answers, out);
 }
 
 // The numbers of the line from the fourth on, as 16 bits.

@@ -3,6 +3,7 @@
 use crate::numbers::Question;
 use crate::questions::ask;
 use slices::{plus, put_number};
+use std::io::Stdout;
 
 #[derive(Clone, Copy)]
 pub struct Part {
@@ -57,10 +58,10 @@ fn put_question(q: Question, bytes: &mut [u8]) {
     put_number(bytes, 12, q.d);
 }
 
-pub fn ask_damaged(q: Question, p: Part, bytes: &mut [u8]) {
+pub fn ask_damaged(q: Question, p: Part, bytes: &mut [u8], out: Stdout) {
     let k = plus(p.start, p.byte);
     put_question(q, bytes);
     change(bytes, k, p.mask);
-    ask(q, p.start, p.size, bytes);
+    ask(q, p.start, p.size, bytes, out);
     change(bytes, k, p.mask);
 }

@@ -4,7 +4,7 @@ use plain::archive::length_of;
 use plain::outcome::{NUMBER, Outcome, Sizes, number, question_of, refused};
 use reader::Reading;
 use slices::{at, both_same, low, minus, put, same_bytes};
-use trials::differences::compare;
+use trials::differences::{Tally, compare};
 use trials::random::{draw, room};
 use writer::Written;
 
@@ -82,7 +82,7 @@ pub fn write(
     lent: u32,
     junk: u8,
     target: &mut [u8],
-    made: &mut [u32; 64],
+    made: &mut Tally,
 ) {
     let mut plain = [junk; 137400];
     let expected = plain::archive::write(entries, lengths, l, lent, &mut plain);
@@ -97,7 +97,7 @@ pub fn write(
 }
 
 // A target that is one byte too short.
-pub fn write_short(entries: &[u32], lengths: &[u32], l: Sizes, made: &mut [u32; 64]) {
+pub fn write_short(entries: &[u32], lengths: &[u32], l: Sizes, made: &mut Tally) {
     let mut target = [77u8; 137400];
     write(
         entries,
@@ -110,7 +110,7 @@ pub fn write_short(entries: &[u32], lengths: &[u32], l: Sizes, made: &mut [u32; 
     );
 }
 
-pub fn open(archive: &[u8], l: Sizes, made: &mut [u32; 64]) {
+pub fn open(archive: &[u8], l: Sizes, made: &mut Tally) {
     let found = opened(archive::open(archive));
     compare(question_of(1, 0, 0, 0), found, sizes_of(l), true, made);
 }
@@ -171,7 +171,7 @@ pub fn read(
     lengths: &[u32],
     l: Sizes,
     seed: u32,
-    made: &mut [u32; 64],
+    made: &mut Tally,
 ) {
     let junk = draw(seed, 1);
     let mut e = [junk; 65544];

@@ -4,6 +4,7 @@ use crate::shapes::{Shape, drawn};
 use plain::archive::length_of;
 use plain::outcome::Sizes;
 use slices::{at, count_at, plus, put};
+use trials::differences::Tally;
 use trials::random::{below, draw, once_in};
 use trials::{booleans, lists, numbers, orders, places, rates, searches, sets};
 
@@ -25,7 +26,7 @@ fn fill_lengths(how: u32, n: u32, terms: u32, seed: u32, lengths: &mut [u32]) {
 }
 
 // A library of a shape.
-pub fn library(s: Shape, seed: u32, made: &mut [u32; 64]) {
+pub fn library(s: Shape, seed: u32, made: &mut Tally) {
     let mut entries = [0u32; 65536];
     let mut lengths = [0u32; 4096];
     let l = Sizes {
@@ -44,7 +45,7 @@ fn write_and_ask(
     l: Sizes,
     questions: u32,
     seed: u32,
-    made: &mut [u32; 64],
+    made: &mut Tally,
 ) {
     let junk = (draw(seed, 1) % 256) as u8;
     let mut target = [junk; 137400];
@@ -98,7 +99,7 @@ fn ask_one(
     lengths: &[u32],
     l: Sizes,
     seed: u32,
-    made: &mut [u32; 64],
+    made: &mut Tally,
 ) {
     match kind {
         3 | 4 | 5 | 6 | 7 | 8 => numbers::ask(kind, archive, entries, lengths, l, seed, made),
@@ -117,7 +118,7 @@ fn ask(
     lengths: &[u32],
     l: Sizes,
     seed: u32,
-    made: &mut [u32; 64],
+    made: &mut Tally,
 ) {
     let mut i = 0;
     while i < times {
@@ -142,7 +143,7 @@ fn ask_booleans(
     lengths: &[u32],
     l: Sizes,
     seed: u32,
-    made: &mut [u32; 64],
+    made: &mut Tally,
 ) {
     let mut i = 0;
     while i < times {
@@ -152,14 +153,7 @@ fn ask_booleans(
 }
 
 // So many sets of documents.
-fn ask_sets(
-    times: u32,
-    archive: &[u8],
-    entries: &[u32],
-    l: Sizes,
-    seed: u32,
-    made: &mut [u32; 64],
-) {
+fn ask_sets(times: u32, archive: &[u8], entries: &[u32], l: Sizes, seed: u32, made: &mut Tally) {
     let mut i = 0;
     while i < times {
         sets::ask_drawn(archive, entries, l, draw(seed, i), made);
@@ -168,14 +162,7 @@ fn ask_sets(
 }
 
 // So many orders of terms.
-fn ask_orders(
-    times: u32,
-    archive: &[u8],
-    lengths: &[u32],
-    l: Sizes,
-    seed: u32,
-    made: &mut [u32; 64],
-) {
+fn ask_orders(times: u32, archive: &[u8], lengths: &[u32], l: Sizes, seed: u32, made: &mut Tally) {
     let mut i = 0;
     while i < times {
         orders::ask_drawn(archive, lengths, l, draw(seed, i), made);
@@ -193,7 +180,7 @@ fn ask_written(
     l: Sizes,
     questions: u32,
     seed: u32,
-    made: &mut [u32; 64],
+    made: &mut Tally,
 ) {
     let from = 0;
     let to = size as usize;
@@ -222,7 +209,7 @@ fn ask_written(
 }
 
 // Over the places of two documents, any and that of the first entry.
-fn walk(archive: &[u8], entries: &[u32], l: Sizes, seed: u32, made: &mut [u32; 64]) {
+fn walk(archive: &[u8], entries: &[u32], l: Sizes, seed: u32, made: &mut Tally) {
     let d = below(draw(seed, 4), l.documents);
     places::walk(archive, entries, l, d, made);
     places::walk(archive, entries, l, at(entries, 0), made);

@@ -12,11 +12,11 @@ use library::library;
 use patterns::patterns;
 use sequences::sequences;
 use shapes::shape_of;
-use trials::differences::totals;
+use trials::differences::{Tally, totals};
 use trials::random::draw;
 use trials::rates::ask_rates;
 
-fn libraries(made: &mut [u32; 64]) {
+fn libraries(made: &mut Tally) {
     let mut i: u32 = 0;
     while i < 3105 {
         let seed = draw(2026, i);
@@ -25,8 +25,8 @@ fn libraries(made: &mut [u32; 64]) {
     }
 }
 
-fn main() {
-    let mut made = [0u32; 64];
+fn main(rt: HostRuntime) {
+    let mut made = Tally::new(rt.stdout());
     libraries(&mut made);
     patterns(&mut made);
     sequences(&mut made);

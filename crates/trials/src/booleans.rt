@@ -1,5 +1,5 @@
 // Questions with and, or, not: with a reading, with one number edited, and noise.
-use crate::differences::{compare, count_matches, differences, show_numbers};
+use crate::differences::{Tally, compare, count_matches, differences, show_numbers};
 use crate::edits::put_edited;
 use crate::expressions::{Style, put_expression};
 use crate::numbers::answered;
@@ -48,7 +48,7 @@ pub fn ask(
     lengths: &[u32],
     l: Sizes,
     junk: u32,
-    made: &mut [u32; 64],
+    made: &mut Tally,
 ) {
     let mut answers = [junk; 4104];
     let mut plain = [junk; 4104];
@@ -60,7 +60,7 @@ pub fn ask(
     compare(q, found, expected, same(&answers, &plain), made);
     count_matches(expected, l.documents, made);
     if before < differences(made) {
-        show_numbers(numbers, q.d);
+        show_numbers(numbers, q.d, made);
     }
 }
 
@@ -135,7 +135,7 @@ pub fn ask_drawn(
     lengths: &[u32],
     l: Sizes,
     seed: u32,
-    made: &mut [u32; 64],
+    made: &mut Tally,
 ) {
     let mut numbers = [0u32; 72];
     let size = put_drawn(l, draw(seed, 1), &mut numbers);

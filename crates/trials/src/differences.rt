@@ -1,46 +1,63 @@
 // How many questions of each kind were compared, and a line for each difference.
-use libc::STDOUT_FILENO;
 use plain::outcome::{DONE, NUMBER, Outcome, Question, REFUSED, SPENT};
 use slices::{at, count_at, plus};
+use std::io::Stdout;
 
-pub fn text(bytes: &[u8]) {
-    io::write_all(STDOUT_FILENO, bytes);
+// What was counted, each kind in its slot, and where lines go.
+#[derive(Drop)]
+pub struct Tally {
+    slots: [u32; 64],
+    out: Stdout,
 }
 
-pub fn decimal(x: u32) {
-    io::print_decimal(STDOUT_FILENO, x as u64);
+impl Tally {
+    pub fn new(out: Stdout) -> Tally {
+        Tally {
+            slots: [0u32; 64],
+            out,
+        }
+    }
+}
+
+// A write that fails is passed over.
+pub fn text(bytes: &[u8], out: Stdout) {
+    let _ = out.write_all(bytes);
+}
+
+pub fn decimal(x: u32, out: Stdout) {
+    let _ = out.print(x);
 }
 
 // The kinds of questions.
-fn name(kind: u32) {
+fn name(kind: u32, out: Stdout) {
     match kind {
-        0 => text(b"write"),
-        1 => text(b"open"),
-        2 => text(b"read"),
-        3 => text(b"access"),
-        4 => text(b"rank"),
-        5 => text(b"select"),
-        6 => text(b"quantile of entries"),
-        7 => text(b"quantile of terms"),
-        8 => text(b"range of terms"),
-        9 => text(b"per mille"),
-        10 => text(b"list of entries"),
-        11 => text(b"list of terms"),
-        12 => text(b"conjunction"),
-        13 => text(b"greedy of entries"),
-        14 => text(b"greedy of terms"),
-        15 => text(b"probing of entries"),
-        16 => text(b"probing of terms"),
-        17 => text(b"weighted"),
-        18 => text(b"walk of places"),
-        19 => text(b"conjunction of patterns"),
-        20 => text(b"weighted of patterns"),
-        21 => text(b"boolean"),
-        22 => text(b"boolean of sequences"),
-        23 => text(b"per mille of small sizes"),
-        24 => text(b"rank of a set"),
-        25 => text(b"rarest first"),
-        _ => text(b"weighted of orders"),
+        0 => text(b"write", out),
+        1 => text(b"open", out),
+        2 => text(b"read", out),
+        3 => text(b"access", out),
+        4 => text(b"rank", out),
+        5 => text(b"select", out),
+        6 => text(b"quantile of entries", out),
+        7 => text(b"quantile of terms", out),
+        8 => text(b"range of terms", out),
+        9 => text(b"per mille", out),
+        10 => text(b"list of entries", out),
+        11 => text(b"list of terms", out),
+        12 => text(b"conjunction", out),
+        13 => text(b"greedy of entries", out),
+        14 => text(b"greedy of terms", out),
+        15 => text(b"probing of entries", out),
+        16 => text(b"probing of terms", out),
+        17 => text(b"weighted", out),
+        18 => text(b"walk of places", out),
+        19 => text(b"conjunction of patterns", out),
+        20 => text(b"weighted of patterns", out),
+        21 => text(b"boolean", out),
+        22 => text(b"boolean of sequences", out),
+        23 => text(b"per mille of small sizes", out),
+        24 => text(b"rank of a set", out),
+        25 => text(b"rarest first", out),
+        _ => text(b"weighted of orders", out),
     }
 }
 
@@ -87,43 +104,43 @@ fn same(found: Outcome, expected: Outcome) -> bool {
     found.z == expected.z
 }
 
-fn show(x: u32) {
-    text(b" ");
-    decimal(x);
+fn show(x: u32, out: Stdout) {
+    text(b" ", out);
+    decimal(x, out);
 }
 
-fn show_outcome(o: Outcome) {
-    show(o.what);
-    show(o.x);
-    show(o.y);
-    show(o.z);
+fn show_outcome(o: Outcome, out: Stdout) {
+    show(o.what, out);
+    show(o.x, out);
+    show(o.y, out);
+    show(o.z, out);
 }
 
 // The number of the library, the question, what was found and what the plain count gives.
-fn difference(q: Question, found: Outcome, expected: Outcome, made: &mut [u32; 64]) {
-    text(b"difference: library");
-    show(at(made, 0));
-    text(b", ");
-    name(q.kind);
-    show(q.a);
-    show(q.b);
-    show(q.c);
-    show(q.d);
-    show(q.answers);
-    show(q.work);
-    text(b": found");
-    show_outcome(found);
-    text(b", expected");
-    show_outcome(expected);
-    text(b"\n");
-    count_at(made, DIFFERENCES);
+fn difference(q: Question, found: Outcome, expected: Outcome, made: &mut Tally) {
+    text(b"difference: library", made.out);
+    show(at(&made.slots, 0), made.out);
+    text(b", ", made.out);
+    name(q.kind, made.out);
+    show(q.a, made.out);
+    show(q.b, made.out);
+    show(q.c, made.out);
+    show(q.d, made.out);
+    show(q.answers, made.out);
+    show(q.work, made.out);
+    text(b": found", made.out);
+    show_outcome(found, made.out);
+    text(b", expected", made.out);
+    show_outcome(expected, made.out);
+    text(b"\n", made.out);
+    count_at(&mut made.slots, DIFFERENCES);
 }
 
 // Counts a comparison: the outcomes, and whether the lent slices are alike.
-pub fn compare(q: Question, found: Outcome, expected: Outcome, alike: bool, made: &mut [u32; 64]) {
-    count_at(made, q.kind);
+pub fn compare(q: Question, found: Outcome, expected: Outcome, alike: bool, made: &mut Tally) {
+    count_at(&mut made.slots, q.kind);
     if expected.what == REFUSED {
-        count_at(made, plus(REFUSALS, expected.x));
+        count_at(&mut made.slots, plus(REFUSALS, expected.x));
     }
     if !same(found, expected) {
         difference(q, found, expected, made);
@@ -134,80 +151,80 @@ pub fn compare(q: Question, found: Outcome, expected: Outcome, alike: bool, made
     }
 }
 
-pub fn count_end(end: Outcome, made: &mut [u32; 64]) {
-    count_at(made, plus(ENDS, end.what));
+pub fn count_end(end: Outcome, made: &mut Tally) {
+    count_at(&mut made.slots, plus(ENDS, end.what));
 }
 
 // Of a select and of a walk of places, where the answer is n.
-pub fn count_place(place: Outcome, n: u32, made: &mut [u32; 64]) {
+pub fn count_place(place: Outcome, n: u32, made: &mut Tally) {
     if place.what != NUMBER {
         return;
     }
     if place.x == n {
-        count_at(made, AT_THE_END);
+        count_at(&mut made.slots, AT_THE_END);
     }
 }
 
 // Of a boolean question.
-pub fn count_matches(answer: Outcome, documents: u32, made: &mut [u32; 64]) {
+pub fn count_matches(answer: Outcome, documents: u32, made: &mut Tally) {
     if answer.what != NUMBER {
         return;
     }
     if answer.x == 0 {
-        count_at(made, NO_MATCH);
+        count_at(&mut made.slots, NO_MATCH);
     } else if answer.x == documents {
-        count_at(made, ALL_MATCH);
+        count_at(&mut made.slots, ALL_MATCH);
     } else {
-        count_at(made, SOME_MATCH);
+        count_at(&mut made.slots, SOME_MATCH);
     }
 }
 
 // Of a rate.
-pub fn count_half(rate: Outcome, half: bool, made: &mut [u32; 64]) {
+pub fn count_half(rate: Outcome, half: bool, made: &mut Tally) {
     if rate.what != NUMBER {
         return;
     }
     if half {
-        count_at(made, HALVES);
+        count_at(&mut made.slots, HALVES);
     }
 }
 
 // Of a count of a set before a place.
-pub fn count_members(count: Outcome, place: u32, made: &mut [u32; 64]) {
+pub fn count_members(count: Outcome, place: u32, made: &mut Tally) {
     if count.what != NUMBER {
         return;
     }
     if count.x == 0 {
-        count_at(made, NO_MEMBER);
+        count_at(&mut made.slots, NO_MEMBER);
     } else if count.x == place {
-        count_at(made, ALL_MEMBERS);
+        count_at(&mut made.slots, ALL_MEMBERS);
     } else {
-        count_at(made, SOME_MEMBERS);
+        count_at(&mut made.slots, SOME_MEMBERS);
     }
 }
 
 // How many there are.
-pub fn differences(made: &[u32; 64]) -> u32 {
-    at(made, DIFFERENCES)
+pub fn differences(made: &Tally) -> u32 {
+    at(&made.slots, DIFFERENCES)
 }
 
 // A line of the first so many numbers.
-pub fn show_numbers(numbers: &[u32], size: u32) {
+pub fn show_numbers(numbers: &[u32], size: u32, made: &Tally) {
     let mut i = 0;
     while i < size {
-        show(at(numbers, i));
+        show(at(numbers, i), made.out);
         i += 1;
     }
-    text(b"\n");
+    text(b"\n", made.out);
 }
 
-fn line(kind: u32, made: &[u32; 64]) {
-    name(kind);
-    show(at(made, kind));
-    text(b"\n");
+fn line(kind: u32, made: &Tally) {
+    name(kind, made.out);
+    show(at(&made.slots, kind), made.out);
+    text(b"\n", made.out);
 }
 
-fn kinds(made: &[u32; 64]) {
+fn kinds(made: &Tally) {
     let mut kind = 0;
     while kind < KINDS {
         line(kind, made);
@@ -215,19 +232,19 @@ fn kinds(made: &[u32; 64]) {
     }
 }
 
-fn refusal_line(x: u32, made: &[u32; 64]) {
-    let times = at(made, plus(REFUSALS, x));
+fn refusal_line(x: u32, made: &Tally) {
+    let times = at(&made.slots, plus(REFUSALS, x));
     if times == 0 {
         return;
     }
-    text(b"refused");
-    show(x);
-    text(b":");
-    show(times);
-    text(b"\n");
+    text(b"refused", made.out);
+    show(x, made.out);
+    text(b":", made.out);
+    show(times, made.out);
+    text(b"\n", made.out);
 }
 
-fn refusals(made: &[u32; 64]) {
+fn refusals(made: &Tally) {
     let mut x = 0;
     while x < 20 {
         refusal_line(x, made);
@@ -235,52 +252,52 @@ fn refusals(made: &[u32; 64]) {
     }
 }
 
-fn ends(made: &[u32; 64]) {
-    text(b"weighted of patterns: done");
-    show(at(made, plus(ENDS, DONE)));
-    text(b", spent");
-    show(at(made, plus(ENDS, SPENT)));
-    text(b"\nplaces at the end");
-    show(at(made, AT_THE_END));
-    text(b"\n");
+fn ends(made: &Tally) {
+    text(b"weighted of patterns: done", made.out);
+    show(at(&made.slots, plus(ENDS, DONE)), made.out);
+    text(b", spent", made.out);
+    show(at(&made.slots, plus(ENDS, SPENT)), made.out);
+    text(b"\nplaces at the end", made.out);
+    show(at(&made.slots, AT_THE_END), made.out);
+    text(b"\n", made.out);
 }
 
-fn matches(made: &[u32; 64]) {
-    text(b"boolean: no document");
-    show(at(made, NO_MATCH));
-    text(b", some");
-    show(at(made, SOME_MATCH));
-    text(b", all");
-    show(at(made, ALL_MATCH));
-    text(b"\n");
+fn matches(made: &Tally) {
+    text(b"boolean: no document", made.out);
+    show(at(&made.slots, NO_MATCH), made.out);
+    text(b", some", made.out);
+    show(at(&made.slots, SOME_MATCH), made.out);
+    text(b", all", made.out);
+    show(at(&made.slots, ALL_MATCH), made.out);
+    text(b"\n", made.out);
 }
 
-fn halves(made: &[u32; 64]) {
-    text(b"rates at a half");
-    show(at(made, HALVES));
-    text(b"\n");
+fn halves(made: &Tally) {
+    text(b"rates at a half", made.out);
+    show(at(&made.slots, HALVES), made.out);
+    text(b"\n", made.out);
 }
 
-fn members(made: &[u32; 64]) {
-    text(b"rank of a set: no entry");
-    show(at(made, NO_MEMBER));
-    text(b", some");
-    show(at(made, SOME_MEMBERS));
-    text(b", all");
-    show(at(made, ALL_MEMBERS));
-    text(b"\n");
+fn members(made: &Tally) {
+    text(b"rank of a set: no entry", made.out);
+    show(at(&made.slots, NO_MEMBER), made.out);
+    text(b", some", made.out);
+    show(at(&made.slots, SOME_MEMBERS), made.out);
+    text(b", all", made.out);
+    show(at(&made.slots, ALL_MEMBERS), made.out);
+    text(b"\n", made.out);
 }
 
 // One line a kind of question, and how many were compared; how the weighted searches of patterns ended, how many places were the end, how many
 // documents matched, how many rates were halves, and how many entries belonged to a set; then how many are refused, by number; then the differences.
-pub fn totals(made: &[u32; 64]) {
+pub fn totals(made: &Tally) {
     kinds(made);
     ends(made);
     matches(made);
     halves(made);
     members(made);
     refusals(made);
-    text(b"differences");
-    show(differences(made));
-    text(b"\n");
+    text(b"differences", made.out);
+    show(differences(made), made.out);
+    text(b"\n", made.out);
 }

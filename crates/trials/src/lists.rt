@@ -1,5 +1,5 @@
 // Listings, three numbers a document, and conjunctions of one to eight terms, two a document.
-use crate::differences::compare;
+use crate::differences::{Tally, compare};
 use crate::numbers::answered;
 use crate::random::{below, draw, near, once_in, room, two_ends};
 use paths::Terms;
@@ -42,7 +42,7 @@ pub fn list(
     lengths: &[u32],
     l: Sizes,
     seed: u32,
-    made: &mut [u32; 64],
+    made: &mut Tally,
 ) {
     let junk = draw(seed, 1);
     let mut answers = [junk; 12300];
@@ -112,7 +112,7 @@ pub fn conjunction(
     lengths: &[u32],
     l: Sizes,
     seed: u32,
-    made: &mut [u32; 64],
+    made: &mut Tally,
 ) {
     let t = drawn_terms(l, draw(seed, 2));
     let lent = room(draw(seed, 3), plus(l.documents, l.documents));
@@ -129,7 +129,7 @@ pub fn ask_terms(
     lengths: &[u32],
     l: Sizes,
     junk: u32,
-    made: &mut [u32; 64],
+    made: &mut Tally,
 ) {
     let mut answers = [junk; 8200];
     let mut plain = [junk; 8200];

@@ -1,5 +1,5 @@
 // Questions of an archive for a number: access, rank, select, quantile, the range of terms.
-use crate::differences::{compare, count_place};
+use crate::differences::{Tally, compare, count_place};
 use crate::random::{below, draw, near, two_ends};
 use answers::Answer;
 use archive_ranges::Range;
@@ -97,7 +97,7 @@ pub fn ask(
     lengths: &[u32],
     l: Sizes,
     seed: u32,
-    made: &mut [u32; 64],
+    made: &mut Tally,
 ) {
     let q = drawn(kind, entries, l, draw(seed, 1));
     let expected = plain::numbers::answer(entries, lengths, l, q);

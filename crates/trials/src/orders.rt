@@ -1,5 +1,5 @@
 // The rarest term first, of terms as they are drawn; and up to five terms in every order in which they can be typed, with their weighted search.
-use crate::differences::compare;
+use crate::differences::{Tally, compare};
 use crate::lists::{drawn_terms, named};
 use crate::numbers::answered;
 use crate::patterns::search_of;
@@ -15,7 +15,7 @@ fn same_order(order: [u32; 8], plain: &[u32]) -> bool {
 }
 
 // Through the archive and over the lengths. What is lent for the order holds junk.
-pub fn ask(t: Terms, archive: &[u8], lengths: &[u32], l: Sizes, junk: u32, made: &mut [u32; 64]) {
+pub fn ask(t: Terms, archive: &[u8], lengths: &[u32], l: Sizes, junk: u32, made: &mut Tally) {
     let numbers = t.numbers;
     let mut order = [junk; 8];
     let mut plain = [junk; 8];
@@ -30,7 +30,7 @@ pub fn ask(t: Terms, archive: &[u8], lengths: &[u32], l: Sizes, junk: u32, made:
     );
 }
 
-pub fn ask_drawn(archive: &[u8], lengths: &[u32], l: Sizes, seed: u32, made: &mut [u32; 64]) {
+pub fn ask_drawn(archive: &[u8], lengths: &[u32], l: Sizes, seed: u32, made: &mut Tally) {
     let t = drawn_terms(l, draw(seed, 1));
     ask(t, archive, lengths, l, draw(seed, 2), made);
 }
@@ -90,7 +90,7 @@ pub fn ask_orders(
     lengths: &[u32],
     l: Sizes,
     seed: u32,
-    made: &mut [u32; 64],
+    made: &mut Tally,
 ) {
     let t = drawn_few(l, draw(seed, 1));
     let q = search_of(26, t, l, draw(seed, 2));

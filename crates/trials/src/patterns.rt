@@ -1,6 +1,6 @@
 // Every pattern of one to eight terms among three, so every way to repeat a term: its conjunction, its weighted search and its order, beside the
 // plain side.
-use crate::differences::count_end;
+use crate::differences::{Tally, count_end};
 use crate::lists::{ask_terms, named};
 use crate::random::{below, draw};
 use crate::{orders, searches};
@@ -63,7 +63,7 @@ fn ask_all(
     lengths: &[u32],
     l: Sizes,
     seed: u32,
-    made: &mut [u32; 64],
+    made: &mut Tally,
 ) {
     let q = named(19, t, plus(l.documents, l.documents));
     let s = search_of(20, t, l, draw(seed, 1));
@@ -80,7 +80,7 @@ fn ask_size(
     entries: &[u32],
     lengths: &[u32],
     l: Sizes,
-    made: &mut [u32; 64],
+    made: &mut Tally,
 ) {
     let most = patterns(size);
     let mut i = 0;
@@ -98,7 +98,7 @@ pub fn ask_patterns(
     entries: &[u32],
     lengths: &[u32],
     l: Sizes,
-    made: &mut [u32; 64],
+    made: &mut Tally,
 ) {
     let mut size = 1;
     while size <= 8 {

@@ -1,5 +1,5 @@
 // A walk over the places of a document, from its first entry to the end: number j beside the next place in the list.
-use crate::differences::{compare, count_place};
+use crate::differences::{Tally, compare, count_place};
 use crate::numbers::answered;
 use plain::numbers::next_place;
 use plain::outcome::{Sizes, number, question_of};
@@ -13,7 +13,7 @@ fn step(
     document: u32,
     j: u32,
     from: u32,
-    made: &mut [u32; 64],
+    made: &mut Tally,
 ) -> u32 {
     let place = next_place(entries, l.n, document, from);
     let expected = number(place);
@@ -29,7 +29,7 @@ fn step(
 }
 
 // The end is asked for too, and is n.
-pub fn walk(archive: &[u8], entries: &[u32], l: Sizes, document: u32, made: &mut [u32; 64]) {
+pub fn walk(archive: &[u8], entries: &[u32], l: Sizes, document: u32, made: &mut Tally) {
     let most = plus(l.n, 1);
     let mut passed = 0;
     let mut from = 0;

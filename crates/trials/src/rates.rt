@@ -1,5 +1,5 @@
 // The rate: drawn, exact halves and what is beside them among them, and every one of a small size.
-use crate::differences::{compare, count_half};
+use crate::differences::{Tally, compare, count_half};
 use crate::numbers::answered;
 use crate::random::{below, draw, two_ends};
 use plain::outcome::{Question, question_of};
@@ -29,7 +29,7 @@ pub fn rate(seed: u32) -> Question {
 }
 
 // One question, through the code and by going up.
-pub fn ask(q: Question, made: &mut [u32; 64]) {
+pub fn ask(q: Question, made: &mut Tally) {
     let expected = plain::rate::per_mille(q.a, q.b);
     compare(
         q,
@@ -42,7 +42,7 @@ pub fn ask(q: Question, made: &mut [u32; 64]) {
 }
 
 // Every count up to one above a size.
-fn ask_size(size: u32, made: &mut [u32; 64]) {
+fn ask_size(size: u32, made: &mut Tally) {
     let end = plus(size, 2);
     let mut count = 0;
     while count < end {
@@ -52,7 +52,7 @@ fn ask_size(size: u32, made: &mut [u32; 64]) {
 }
 
 // Every size up to 200.
-pub fn ask_rates(made: &mut [u32; 64]) {
+pub fn ask_rates(made: &mut Tally) {
     let mut size = 0;
     while size < 201 {
         ask_size(size, made);

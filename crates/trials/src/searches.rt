@@ -1,5 +1,5 @@
 // Top-k questions: the greedy search and probing, over entries and over terms, and the weighted search of one to eight terms.
-use crate::differences::compare;
+use crate::differences::{Tally, compare};
 use crate::lists::drawn_terms;
 use crate::random::{Ends, below, draw, near, room, two_ends};
 use moves::TopK;
@@ -125,7 +125,7 @@ pub fn ask(
     lengths: &[u32],
     l: Sizes,
     junk: u32,
-    made: &mut [u32; 64],
+    made: &mut Tally,
 ) -> Outcome {
     let mut answers = [junk; 12300];
     let mut plain = [junk; 12300];
@@ -165,7 +165,7 @@ fn ask_again(
     lengths: &[u32],
     l: Sizes,
     seed: u32,
-    made: &mut [u32; 64],
+    made: &mut Tally,
 ) {
     let exact = with_allowance(q, openings);
     let less = with_allowance(q, minus(openings, 1));
@@ -182,7 +182,7 @@ pub fn ask_drawn(
     lengths: &[u32],
     l: Sizes,
     seed: u32,
-    made: &mut [u32; 64],
+    made: &mut Tally,
 ) {
     let t = drawn_terms(l, draw(seed, 4));
     let q = drawn(kind, l, t, draw(seed, 2));

@@ -1,6 +1,7 @@
 // Every sequence of up to five of three words and the five marks; brackets and nots by their number; every number of 16 bits alone, and between two words:
 // each as a question with and, or, not, beside the plain side.
 use crate::booleans::{ask, named};
+use crate::differences::Tally;
 use crate::random::draw;
 use plain::marks::{AND, CLOSES, NOT, OPENS};
 use plain::outcome::Sizes;
@@ -97,7 +98,7 @@ fn ask_one(
     entries: &[u32],
     lengths: &[u32],
     l: Sizes,
-    made: &mut [u32; 64],
+    made: &mut Tally,
 ) {
     let mut numbers = [0u32; 72];
     let size = size_of(family, i);
@@ -122,7 +123,7 @@ fn ask_family(
     entries: &[u32],
     lengths: &[u32],
     l: Sizes,
-    made: &mut [u32; 64],
+    made: &mut Tally,
 ) {
     let most = questions(family);
     let mut i = 0;
@@ -139,7 +140,7 @@ pub fn ask_numbers(
     entries: &[u32],
     lengths: &[u32],
     l: Sizes,
-    made: &mut [u32; 64],
+    made: &mut Tally,
 ) {
     ask_family(ALONE, three, archive, entries, lengths, l, made);
     ask_family(BETWEEN, three, archive, entries, lengths, l, made);
@@ -152,7 +153,7 @@ pub fn ask_sequences(
     entries: &[u32],
     lengths: &[u32],
     l: Sizes,
-    made: &mut [u32; 64],
+    made: &mut Tally,
 ) {
     let mut family = 0;
     while family < ALONE {

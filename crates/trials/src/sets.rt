@@ -1,5 +1,5 @@
 // The count of a set of documents before a place: sets with gaps, neighbours, all documents, too many, and some with a number edited.
-use crate::differences::{compare, count_members, differences, show_numbers};
+use crate::differences::{Tally, compare, count_members, differences, show_numbers};
 use crate::numbers::answered;
 use crate::random::{below, draw, near, once_in};
 use plain::outcome::{Outcome, Question, Sizes, refused};
@@ -93,7 +93,7 @@ fn ask(
     numbers: &[u32],
     size: u32,
     place: u32,
-    made: &mut [u32; 64],
+    made: &mut Tally,
 ) {
     let q = Question {
         kind: 24,
@@ -115,11 +115,11 @@ fn ask(
     );
     count_members(expected, place, made);
     if before < differences(made) {
-        show_numbers(numbers, size);
+        show_numbers(numbers, size, made);
     }
 }
 
-pub fn ask_drawn(archive: &[u8], entries: &[u32], l: Sizes, seed: u32, made: &mut [u32; 64]) {
+pub fn ask_drawn(archive: &[u8], entries: &[u32], l: Sizes, seed: u32, made: &mut Tally) {
     let mut numbers = [0u32; 72];
     let size = put_set(l, draw(seed, 1), &mut numbers);
     ask(
