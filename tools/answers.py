@@ -134,10 +134,9 @@ def blocks(text):
 
 def flat(body, fn):
     """A term over the steps before a goal, with today's names: no step is counted back, each is named."""
-    body = re.sub(r"\.before\b(?![\w-])", "", body)
     # The names that stand for the record of the steps.
     records = {"c"}
-    for name, of in re.findall(r"\blet ([\w']+) = ([\w']+) in\b", body):
+    for name, of in re.findall(r"\blet ([\w']+) = ([\w']+)(?:\.before)* in\b", body):
         if of in records:
             records.add(name)
 
@@ -146,6 +145,8 @@ def flat(body, fn):
         parts = rest.split(".")[1:]
         if head not in records:
             return m[0]
+        while parts and parts[0] == "before":
+            parts.pop(0)
         out = []
         i = 0
         while i < len(parts):

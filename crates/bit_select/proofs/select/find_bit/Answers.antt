@@ -7,6 +7,7 @@ use Rattle.bits.proofs.Bits.{count-suc, count_mono}
 use Rattle.bit_select.proofs.Search.{found_at, found_none}
 use Rattle.bits.proofs.Tests.{bit_eq, bit_ne}
 use Rattle.bit_select.proofs.select.find_bit.Goals as goal
+use Rattle.bit_select.proofs.select.find_bit.Goals.{then-bit-v+else-count-j, else-bit-v}
 
 pub returns-then-count-j : goal.returns-then-count-j
 returns-then-count-j c =
@@ -22,10 +23,10 @@ loop-i-preserved c =
     let row = s.args.row.now in
     let b = c.bit.ensures.0 in
     let step = rw (← add-one i) at (count-suc v row i) in
-    ⊎_elim
-    (λ w. omega (arith, step, bit_eq v (bit_at row i) (sym w.0.taken ∙ b)))
-    (λ w. omega (arith, step, bit_ne v (bit_at row i) (λ q. w.0.left (b ∙ sym q))))
-    c.if-bit-v.branch
+    elim c.if-bit-v.branch [
+      then-bit-v+else-count-j w ↦ omega (arith, step, bit_eq v (bit_at row i) (sym w.if-bit-v.true ∙ b))
+    | else-bit-v w ↦ omega (arith, step, bit_ne v (bit_at row i) (λ q. w.if-bit-v.false (b ∙ sym q)))
+    ]
 
 pub returns : goal.returns
 returns c =

@@ -42,4 +42,4 @@ returns c =
     let e : here ≡ of_kind s.args.v w (ones (f.bits % 2 ^ w))
     = c.of_kind-here.ensures.0 ∙ ap (of_kind s.args.v w) (c.word_ones.ensures.0 ∙ ap (λ (m : ℕ). ones (f.bits % m)) (shl_word w s.requires.0)) in
     rw (c.times-step.ensures.0, c.times.ensures.0)
-    (narrow_step s.args.row.now (λ i. (c.type_inv.row i).fits) s.args.v s.args.k s.args.j w f.bits f.place f here s.requires.1 e (ltb (f + here) s.args.j) refl)
+    (narrow_step s.args.row.now (λ i. (c.type_inv.row i).fits) s.args.v s.args.k s.args.j w f.bits f.place f.before here s.requires.1 e (ltb (f.before + here) s.args.j) refl)
