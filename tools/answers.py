@@ -88,6 +88,10 @@ def as_record(body, names):
         else:
             depth += 1 if m[0] in "([{" else -1
     head, tail = body[:at], body[at:]
+    more = re.match(r"(\s*rw (?:\([^()]*(?:\([^()]*\)[^()]*)*\)|\S+)\s+)(\(.*)$", tail, re.S)
+    close = ""
+    if more and split_tuple(more[2]):
+        head, tail, close = head + more[1] + "(", more[2], ")"
     parts = split_tuple(tail)
     while parts and len(parts) < n:
         more = split_tuple(parts[-1])
@@ -98,12 +102,16 @@ def as_record(body, names):
         return body
     if len(parts) > n:
         parts[n - 1 :] = ["(" + ", ".join(parts[n - 1 :]) + ")"]
-    return head + " record {\n" + "".join(f"      {a} = {b};\n" for a, b in zip(names, parts)) + "    }"
+    return head + ("" if close else " ") + "record {\n" + "".join(f"      {a} = {b};\n" for a, b in zip(names, parts)) + "    }" + close
 
 
 class Function:
     def __init__(self, of, name):
         self.requires, self.ensures = CLAUSES.get(name, ([], []))
+        self.local = {}
+        self.name = name
+        self.callee_name = {}
+        self.cycle = False
         self.named = {}
         self.needs = {}
         self.order = []
@@ -120,11 +128,18 @@ class Function:
                 if callee:
                     self.callee[new] = of["params"].get(callee, [])
                     self.named[new] = CLAUSES.get(callee, ([], []))
+                    self.callee_name[new] = callee
         self.loops = {plain(l[0][0]): (l[0][1], l[1], c) for l, c in zip(of["loops"], of["changed"])}
         self.typed = {}
         for each in of["typed"]:
             for var, step in each:
                 self.typed.setdefault(plain(step), var)
+
+
+# The place in the code of which an older answer or law speaks.
+PLACE = r"(?:tie|[\w-]+-lts)\.(?:After|Else|Then|In|At|Start|Came)[^\s()]*(?: \([\w-]+ t\) \([\w-]+ t\) [\w-]+\.Post)?"
+T0 = r"(?:\(t : ℕ\) )?"
+NEED = re.compile(r": (?:tie|\(t : ℕ\) → [\w-]+-lts)\.Need-(\S+)")
 
 
 def blocks(text):
@@ -139,6 +154,13 @@ def flat(body, fn):
     for name, of in re.findall(r"\blet ([\w']+) = ([\w']+)(?:\.before)* in\b", body):
         if of in records:
             records.add(name)
+
+    # What names a part of a tuple of clauses is written out, so that each clause can be cited by its name.
+    for name, of in re.findall(r"\blet ([\w']+) = ((?:[\w']+)(?:\.[^\s(){}.;,]+)*\.(?:requires|ensures)(?:\.\d)*) in\b", body):
+        if of.split(".")[0] in records:
+            body, n = re.subn(rf"(?<![\w.'-]){re.escape(name)}(?=\.\d)", of, body)
+            if n and not re.search(rf"(?<![\w.'-]){re.escape(name)}(?![\w'-])(?! = )", body):
+                body = re.sub(rf"[ \n]*\blet {re.escape(name)} = {re.escape(of)} in\b", "", body)
 
     def path(m):
         head, rest = m[1], m[2]
@@ -158,6 +180,10 @@ def flat(body, fn):
                 out += ["type_inv", fn.typed[key]]
                 i += 2
                 continue
+            if i == 0 and p == "requires" and fn.cycle:
+                if parts[1:2] == ["0"]:
+                    return head + ".decreases"
+                del parts[1:2]
             if i == 0 and p == "requires":
                 return head + "".join("." + it for it in ["requires", *by_name(parts[1:], fn.requires)])
             if i == 0 and key in fn.steps and p not in ("args", "requires", "ranges"):
@@ -185,7 +211,46 @@ def flat(body, fn):
             i += 1
         return head + "".join("." + p for p in out)
 
-    return re.sub(r"(?<![\w.'-])([a-z][\w']*)((?:\.[^\s(){}.;,@\"«»\[\]]+)+)", path, body)
+    body = re.sub(r"(?<![\w.'-])([a-z][\w']*)((?:\.[^\s(){}.;,@\"«»\[\]]+)+)", path, body)
+    # A test of `!b` says today itself that b is false, or true.
+    body = re.sub(r"\bnot-(?:true|false) (?:\([^()]*\)|\S+) (\S*\.if-not-\S+\.(?:true|false))", r"\1", body)
+    return with_local(body, fn)
+
+
+def with_local(body, fn):
+    """A term with the local laws that it names in front: each is said over the steps of the goal itself."""
+    used = []
+
+    def look(text):
+        for name in fn.local:
+            if name not in used and re.search(rf"(?<![\w.'-]){re.escape(name)}(?![\w'-])", text):
+                used.append(name)
+                look(fn.local[name][0] + fn.local[name][1])
+
+    look(body)
+    if not used:
+        return body
+    for name in used:
+        body = applied(body, name, fn)
+    lets = []
+    for name in [it for it in fn.local if it in used]:
+        type, term = fn.local[name]
+        for other in used:
+            type, term = applied(type, other, fn), applied(term, other, fn)
+        head = f" : {type.strip()}" if type.strip() else ""
+        term = "\n    ".join(term.strip().split("\n"))
+        lets.append(f"    let {name}{head} =\n        {term} in")
+    return "\n" + "\n".join(lets) + "\n    " + body.strip()
+
+
+def applied(text, name, fn):
+    """A use of a local law without the record of the steps, which it was given."""
+    t = r"(?:t )?" if fn.cycle else ""
+    records = ["c"]
+    for alias, of in re.findall(r"\blet ([\w']+) = ([\w']+)(?:\.before)* in\b", text):
+        if of in records:
+            records.append(alias)
+    return re.sub(rf"(?<![\w.'-]){re.escape(name)} {t}(?:{'|'.join(map(re.escape, records))})(?:\.before)*(?![\w.'-])", name, text)
 
 
 def substitute(body, names):
@@ -198,12 +263,28 @@ def substitute(body, names):
     return TOKEN.sub(one, body)
 
 
-def turn(path, of, crate):
+def measure(folder, home, uses, crate, lines, params, function):
+    """The measure of a function that calls itself, over its parameters by name."""
+    body = re.split(r" κs a =(?=[ \n])", "\n".join(lines), 1)[1]
+
+    def one(m):
+        n = m[1].count(".1")
+        return "l." + params[n] if n < len(params) else m[0]
+
+    body = re.sub(r"(?<![\w.'-])a((?:\.1)*)\.0(?![\w])", one, body)
+    out = f"abbrev pub decreases-{function} : goal.decreases-{function}\ndecreases-{function} l ={body}"
+    kept = trimmed(uses, out) + [f"use Rattle.{crate}.proofs.{home}.Given as goal"]
+    with open(os.path.join(folder, "Invariants.antt"), "w", encoding="utf-8") as f:
+        f.write("\n".join(kept) + "\n\n" + out + "\n")
+
+
+def turn(path, of, crate, name, cycle):
     with open(path, encoding="utf-8") as f:
         text = f.read()
     folder = os.path.dirname(path)
     home = os.path.relpath(folder, f"crates/{crate}/proofs").replace("/", ".")
-    fn = Function(of, f"{crate}::" + home.replace(".", "::"))
+    fn = Function(of, name)
+    fn.cycle = cycle
     uses, invs, answers, other, head = [], [], [], [], []
     for b in blocks(text):
         lines = b.split("\n")
@@ -214,14 +295,18 @@ def turn(path, of, crate):
         first = next((l for l in lines if not l.startswith("--")), "")
         if re.match(r"(pub )?\S+-spec\b.*: ", first) or re.match(r"(pub )?\S+_spec\b.*: ", first):
             continue
+        uses = [u for u in uses if not re.search(r"\.(Statement|Tie|Lts|Reads|Kinds)\b|Lts-|PlainCycle|\.\{statement\}", u)]
+        if cycle and (re.match(r"abbrev \S+ : (ℕ → In|ℕ → \S+\.Claims|Measures)", first)):
+            if "Measures" in first:
+                measure(folder, home, uses, crate, lines, of["params"].get(name, []), name.split("::")[-1])
+            continue
         if re.search(r": tie\.(invariant|decreases)-", first):
             invs.append(lines)
-        elif re.search(r": tie\.Need-", first):
+        elif NEED.search(first):
             answers.append(lines)
         else:
             other.append(lines)
-    uses = [u for u in uses if not re.search(r"\.(Statement|Tie|Lts)\b", u)]
-    moved = []
+    uses = [u for u in uses if not re.search(r"\.(Statement|Tie|Lts|Reads|Kinds)\b|Lts-|PlainCycle|\.\{statement\}", u)]
     if invs:
         out = [f"use Rattle.{crate}.proofs.{home}.Given as goal"]
         for lines in invs:
@@ -252,9 +337,33 @@ def turn(path, of, crate):
         with open(os.path.join(folder, "Invariants.antt"), "w", encoding="utf-8") as f:
             f.write("\n".join(kept + out[:1]) + "\n\n" + "\n\n".join(out[1:]) + "\n")
     done = []
+    rest = []
+    for lines in other:
+        text_of = "\n".join(l for l in lines if not l.startswith("--"))
+        m = re.match(r"(?:abbrev )?(\S+) : " + T0 + r"\(c : " + PLACE + r"\)\s*→ (.*?)\n(\1(?: t)? c\b.*)$", text_of, re.S)
+        m2 = re.match(r"(?:abbrev )?(\S+) : " + PLACE + r" → ([^\n]*)\n(\1 c\b.*)$", text_of, re.S)
+        if m:
+            name, type, eq = m[1], m[2], m[3]
+        elif m2:
+            name, type, eq = m2[1], m2[2], m2[3]
+        else:
+            rest.append(lines)
+            continue
+        eq_head, body = re.split(r" =(?=[ \n])", eq, 1)
+        args = [a for a in eq_head.split()[1:] if a not in ("c", "t")]
+        # more premises become a function
+        body = (f"λ {' '.join(args)}. " if args else "") + body.strip()
+        keep = fn.local
+        fn.local = {}
+        fn.local, term = keep, None
+        saved, fn.local = fn.local, {}
+        term, type = flat(body, fn), flat(type, fn)
+        fn.local = saved
+        fn.local[name] = (type, term)
+    other = rest
     for lines in answers:
-        sig = next(i for i, l in enumerate(lines) if ": tie.Need-" in l)
-        need = plain(re.search(r": tie\.Need-(\S+)", lines[sig])[1])
+        sig = next(i for i, l in enumerate(lines) if NEED.search(l))
+        need = plain(NEED.search(lines[sig])[1])
         eq = "\n".join(lines[sig + 1 :])
         m = re.match(r"(?:unfolding[^\n]*\n)*", eq)
         unfolding, eq = m[0], eq[m.end() :]
@@ -270,15 +379,21 @@ def turn(path, of, crate):
             continue
         com = [l for l in lines[:sig] if l.startswith("--")]
         args = [a for a in args if a != "κs"]
+        step = re.sub(r"-requires.*", "", new)
+        asked = fn.named.get(step) or next((v for k, v in fn.named.items() if k.startswith(step)), ([], []))
+        recursive = cycle and fn.callee_name.get(step) == fn.name
         body = flat(body, fn)
         if new.startswith("returns"):
             body = as_record(body, fn.ensures)
         elif new.endswith("-requires") or re.search(r"-requires-", new):
-            step = re.sub(r"-requires.*", "", new)
-            asked = fn.named.get(step) or next((v for k, v in fn.named.items() if k.startswith(step)), ([], []))
-            body = as_record(body, asked[0])
+            if not recursive:
+                body = as_record(body, asked[0])
         done.append("\n".join(com + [f"pub {new} : goal.{new}"]) + "\n" + unfolding + f"{new} {' '.join(args)} ={body}")
     texts = ["\n".join(l) for l in other]
+    return folder, home, uses, texts, done, crate, path
+
+
+def written(folder, home, uses, texts, done, crate, path):
     if done:
         needed = "\n".join(texts + done)
         kept = trimmed(uses, needed)
@@ -316,14 +431,21 @@ def main():
     for path in sorted(glob.glob(f"{base}/**/Proof.antt", recursive=True)):
         home = os.path.relpath(os.path.dirname(path), base).replace("/", ".")
         of = all.get(f"Rattle-{crate}-proofs.{home}.Lts")
+        one = home.split(".")[-1]
+        cycle = one.startswith("+")
+        name = f"{crate}::" + home.replace(".", "::").replace("+", "")
+        if cycle:
+            of = all.get(f"Rattle-{crate}-proofs.{home}.Lts-{one[1:]}")
         with open(path, encoding="utf-8") as f:
             text = f.read()
         if of is None:
             print(f"left: {path}: no names of it")
-        elif "tie.close" not in text:
+        elif not cycle and "tie.close" not in text:
             print(f"left: {path}: walked by hand")
         else:
-            turn(path, of, crate)
+            said = turn(path, of, crate, name, cycle)
+            if said:
+                written(*said)
 
 
 if __name__ == "__main__":
