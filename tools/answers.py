@@ -18,6 +18,9 @@ TOKEN = re.compile(T)
 plain = lambda it: it.replace("_", "-")
 
 
+PARAMS = {}
+
+
 def clauses():
     """The names of the clauses of each function, in order: {crate::module::name: (requires, ensures)}; None for one clause without a name."""
     out = {}
@@ -35,6 +38,8 @@ def clauses():
             for kind, name in re.findall(r"(?m)^ *(requires|ensures)(?: (\w+))? \{", head):
                 names[kind].append(name or None)
             out[f"{crate}::{module}{m[1]}"] = (names["requires"], names["ensures"])
+            signature = re.search(r"\((.*?)\n?\)(?: ->|\n|$)", head, re.S)
+            PARAMS[f"{crate}::{module}{m[1]}"] = re.findall(r"(?:^|[(,\n]) *(?:mut )?(\w+):", signature[1]) if signature else []
     return out
 
 
@@ -88,10 +93,17 @@ def as_record(body, names):
         else:
             depth += 1 if m[0] in "([{" else -1
     head, tail = body[:at], body[at:]
-    more = re.match(r"(\s*rw (?:\([^()]*(?:\([^()]*\)[^()]*)*\)|\S+)\s+)(\(.*)$", tail, re.S)
     close = ""
-    if more and split_tuple(more[2]):
-        head, tail, close = head + more[1] + "(", more[2], ")"
+    more = re.match(r"\s*rw ", tail)
+    if more:
+        i, depth = more.end(), 0
+        while i < len(tail) and (depth or not tail[i].isspace()):
+            depth += (tail[i] in "([{") - (tail[i] in ")]}")
+            i += 1
+        while i < len(tail) and tail[i].isspace():
+            i += 1
+        if split_tuple(tail[i:]):
+            head, tail, close = head + tail[:i] + "(", tail[i:], ")"
     parts = split_tuple(tail)
     while parts and len(parts) < n:
         more = split_tuple(parts[-1])
@@ -129,6 +141,14 @@ class Function:
                     self.callee[new] = of["params"].get(callee, [])
                     self.named[new] = CLAUSES.get(callee, ([], []))
                     self.callee_name[new] = callee
+        # What an arm of a `match` or a `?` binds or says, by where it stood.
+        self.arms = []
+        for arm in of["arms"]:
+            if arm:
+                for field, old, at in arm[2]:
+                    it = (plain(old), at, arm[0], field)
+                    if at and it not in self.arms:
+                        self.arms.append(it)
         self.loops = {plain(l[0][0]): (l[0][1], l[1], c) for l, c in zip(of["loops"], of["changed"])}
         self.typed = {}
         for each in of["typed"]:
@@ -155,8 +175,12 @@ def flat(body, fn):
         if of in records:
             records.add(name)
 
+    steps = {}
+    for name, of, step in re.findall(r"\blet ([\w']+) = ([\w']+)(?:\.before)*\.«?([\w'-]+)»? in\b", body):
+        if of in records and step not in ("args", "requires", "ranges", "before", "pre", "fits"):
+            steps[name] = plain(step)
     # What names a part of a tuple of clauses is written out, so that each clause can be cited by its name.
-    for name, of in re.findall(r"\blet ([\w']+) = ((?:[\w']+)(?:\.[^\s(){}.;,]+)*\.(?:requires|ensures)(?:\.\d)*) in\b", body):
+    for name, of in re.findall(r"\blet ([\w']+) = ((?:[\w']+)(?:\.[^\s(){}.;,]+)*\.(?:requires|ensures|given)(?:\.\d)*) in\b", body):
         if of.split(".")[0] in records:
             body, n = re.subn(rf"(?<![\w.'-]){re.escape(name)}(?=\.\d)", of, body)
             if n and not re.search(rf"(?<![\w.'-]){re.escape(name)}(?![\w'-])(?! = )", body):
@@ -164,7 +188,12 @@ def flat(body, fn):
 
     def path(m):
         head, rest = m[1], m[2]
-        parts = rest.split(".")[1:]
+        parts = [it.strip("«»") for it in rest.split(".")[1:]]
+        if head in steps and head not in records:
+            new = fn.steps.get(steps[head])
+            if new is None:
+                return m[0]
+            return head + "".join("." + it for it in of_step(parts, new, fn))
         if head not in records:
             return m[0]
         while parts and parts[0] == "before":
@@ -176,10 +205,19 @@ def flat(body, fn):
             key = plain(p)
             if i == 0 and key not in fn.steps and key.endswith("-lem"):
                 key = key.removesuffix("-lem")
+            if i == 0 and key not in fn.steps and key.lower() in fn.steps:
+                key = key.lower()
+            if i == 0 and key == "well-formed":
+                return head + ".well_formed" + "".join("." + it for it in parts[1:])
+            arm = next((it for it in fn.arms if i == 0 and it[0] == key and parts[1 : 1 + len(it[1])] == it[1]), None)
+            if arm:
+                return head + "".join("." + it for it in [arm[2], arm[3], *parts[1 + len(arm[1]) :]])
             if i == 0 and key in fn.typed and i + 1 < len(parts) and parts[i + 1] in ("given", "type_inv", "type-inv"):
                 out += ["type_inv", fn.typed[key]]
                 i += 2
                 continue
+            if i == 0 and p in ("pre", "fits"):
+                p = parts[0] = {"pre": "requires", "fits": "ranges"}[p]
             if i == 0 and p == "requires" and fn.cycle:
                 if parts[1:2] == ["0"]:
                     return head + ".decreases"
@@ -188,33 +226,38 @@ def flat(body, fn):
                 return head + "".join("." + it for it in ["requires", *by_name(parts[1:], fn.requires)])
             if i == 0 and key in fn.steps and p not in ("args", "requires", "ranges"):
                 new = fn.steps[key]
-                out.append(new)
-                if i + 1 < len(parts) and parts[i + 1] == "ensures" and new in fn.named:
-                    out += ["ensures", *by_name(parts[i + 2 :], fn.named[new][1])]
-                    break
-                # the content of a lent place after the call goes by its name
-                if i + 1 < len(parts) and parts[i + 1] in ("new", "given", "auto", "type_inv") and new in fn.callee and fn.callee[new]:
-                    word = {"given": "type_inv"}.get(parts[i + 1], parts[i + 1])
-                    j, n = i + 2, 0
-                    while j < len(parts) and parts[j] == "1":
-                        n, j = n + 1, j + 1
-                    if j < len(parts) and parts[j] == "0" and n < len(fn.callee[new]):
-                        out += [word, fn.callee[new][n]]
-                        i = j + 1
-                        continue
-                    out.append(word)
-                    i += 2
-                    continue
-                i += 1
-                continue
+                out += [new, *of_step(parts[i + 1 :], new, fn)]
+                break
             out.append({"given": "type_inv"}.get(p, p))
             i += 1
         return head + "".join("." + p for p in out)
 
-    body = re.sub(r"(?<![\w.'-])([a-z][\w']*)((?:\.[^\s(){}.;,@\"«»\[\]]+)+)", path, body)
+    body = re.sub(r"(?<![\w.'-])([A-Za-z][\w']*)((?:\.«?[^\s(){}.;,@\"«»\[\]]+»?)+)", path, body)
+    # A parameter that was named by its place.
+    params = PARAMS.get(fn.name, [])
+    body = re.sub(r"(?<=\.)t(\d+)(?=[\s.,)])", lambda m: params[int(m[1]) - 1] if m[0] not in params and 0 < int(m[1]) <= len(params) else m[0], body)
     # A test of `!b` says today itself that b is false, or true.
     body = re.sub(r"\bnot-(?:true|false) (?:\([^()]*\)|\S+) (\S*\.if-not-\S+\.(?:true|false))", r"\1", body)
     return with_local(body, fn)
+
+
+OLD = {"given": "type_inv", "taken": "true", "left": "false", "last": "new", "kept": "auto"}
+
+
+def of_step(parts, new, fn):
+    """What stands behind the name of a step: a clause by its name, the content of a lent place by the parameter's."""
+    if not parts:
+        return []
+    first = OLD.get(parts[0], parts[0]) if parts[0] in ("given",) or new.startswith(("if-", "loop-")) or parts[0] in ("last", "kept") else parts[0]
+    if first == "ensures" and new in fn.named:
+        return ["ensures", *by_name(parts[1:], fn.named[new][1])]
+    if first in ("new", "auto", "type_inv") and fn.callee.get(new):
+        n = 0
+        while n + 1 < len(parts) and parts[n + 1] == "1":
+            n += 1
+        if n + 1 < len(parts) and parts[n + 1] == "0" and n < len(fn.callee[new]):
+            return [first, fn.callee[new][n], *parts[n + 2 :]]
+    return [first, *parts[1:]]
 
 
 def with_local(body, fn):
@@ -250,6 +293,7 @@ def applied(text, name, fn):
     for alias, of in re.findall(r"\blet ([\w']+) = ([\w']+)(?:\.before)* in\b", text):
         if of in records:
             records.append(alias)
+    # in a module over the place it was named alone
     return re.sub(rf"(?<![\w.'-]){re.escape(name)} {t}(?:{'|'.join(map(re.escape, records))})(?:\.before)*(?![\w.'-])", name, text)
 
 
@@ -261,6 +305,41 @@ def substitute(body, names):
             return m[0]
         return names.get(m[0], m[0])
     return TOKEN.sub(one, body)
+
+
+def unfolded_modules(text):
+    """Laws in a module over a place, each said over that place by itself; a name for an earlier place goes."""
+    out = []
+    place = None
+    for b in re.split(r"\n\s*\n", text):
+        m = re.match(r"module _ \(c : (\S+)\) where\n", b)
+        if m:
+            place, b = m[1], b[m.end() :]
+        elif place and not b.startswith("  "):
+            place = None
+        if not place:
+            out.append(b)
+            continue
+        lines = [l[2:] if l.startswith("  ") else l for l in b.split("\n")]
+        at = next((i for i, l in enumerate(lines) if not l.startswith("--")), 0)
+        d = re.match(r"((?:abbrev )?)(\S+) : (.*)$", lines[at])
+        if not d:
+            out.append(b)
+            continue
+        eq = next((i for i, l in enumerate(lines) if i > at and re.match(re.escape(d[2]) + r"\b.* =(?= |$)", l)), None)
+        if eq is None:
+            out.append(b)
+            continue
+        type = "\n".join([d[3], *lines[at + 1 : eq]])
+        lines[at : eq + 1] = [f"{d[1]}{d[2]} : (c : {place}) → {type}", re.sub(rf"^{re.escape(d[2])}(?![\w'-])", f"{d[2]} c", lines[eq])]
+        out.append("\n".join(lines))
+    text = "\n\n".join(out)
+    # a name for the record of an earlier place is that record
+    for name in re.findall(r"(?m)^abbrev (\S+) : \(c : \S+\) → tie\.\S+\n\1 c = c(?:\.before)*$", text):
+        text = re.sub(rf"(?m)^abbrev {re.escape(name)} : \(c : \S+\) → tie\.\S+\n{re.escape(name)} c = c(?:\.before)*$\n*", "", text)
+        text = re.sub(rf"\({re.escape(name)} [a-z](?:\.before)*\)", "c", text)
+        text = re.sub(rf"(?<![\w.'-]){re.escape(name)}(?: [a-z](?:\.before)*(?![\w'-]))?(?![\w'-])", "c", text)
+    return text
 
 
 def measure(folder, home, uses, crate, lines, params, function):
@@ -285,6 +364,7 @@ def turn(path, of, crate, name, cycle):
     home = os.path.relpath(folder, f"crates/{crate}/proofs").replace("/", ".")
     fn = Function(of, name)
     fn.cycle = cycle
+    text = unfolded_modules(text)
     uses, invs, answers, other, head = [], [], [], [], []
     for b in blocks(text):
         lines = b.split("\n")
@@ -406,6 +486,8 @@ def written(folder, home, uses, texts, done, crate, path):
 def trimmed(uses, text):
     """The imports without what the text does not name."""
     tokens = set(TOKEN.findall(re.sub(r"(?m)--.*", "", text)))
+    if "[]" in text:
+        tokens.add("[]")
     out = []
     for u in uses:
         m = re.match(r"use (\S+)\.\{(.*)\}$", u)

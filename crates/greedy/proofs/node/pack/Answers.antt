@@ -1,0 +1,8 @@
+-- `pack`: the numbers fit 32 bits.
+use mathlib.Core.Path.{refl}
+use Rattle.greedy.specs.Records.{packed}
+use Rattle.greedy.proofs.node.pack.Goals as goal
+
+pub returns : goal.returns
+unfolding packed
+returns c = refl
