@@ -5,7 +5,7 @@ use Rattle.bits.specs.Sequences.{up_from, below}
 use Rattle.bits.specs.Bits.{bits_of, pack, samples_of, samples_right, unused_clear}
 use Rattle.model.specs.Outcome.{answered, refused}
 use Rattle.model.specs.Format.{Library, library, encode}
-use Rattle.model.specs.Opening.{entries_at, opening, opened}
+use Rattle.model.specs.Opening.{entries_at, opening}
 use Rattle.model.specs.Queries.{pair, flat}
 use Rattle.model.specs.TopK.{node, Ended, done_with, spent_with, SearchResult}
 use Rattle.model.specs.Search.{names, opens, finds_spent}
@@ -95,20 +95,16 @@ pub telling_cases : Hold telling_case_list
 unfolding encode bits_of pack samples_of samples_right unused_clear entries_at opening
 telling_cases = refl
 
--- one term in eleven documents of thirteen, which weighs 0: of the fifteen nodes two have no entry, and are no part of the need
-abbrev row : Library
+-- one term in eleven documents of thirteen, which weighs 0: of the fifteen nodes two have no entry, and are no part of the need.
+-- Its cases are proved in `proofs/WeightedCases`
+abbrev pub row : Library
 row = library 13 (11 ∷ []) (up_from 2 11)
-
--- read once, since that takes long
-row_opened : opened (encode row) ≡ answered row
-unfolding encode bits_of pack samples_of samples_right unused_clear entries_at opening
-row_opened = refl
 
 -- so many documents from 2 on, with score 0
 abbrev of_row : ℕ → ℕ → Ended → ℕ → Case
 of_row k allowance ended n = gives (encode row) (0 ∷ []) k allowance (2 * k) 52 13 ended (flat (map (λ d. pair d 0) (up_from 2 n)))
 
-abbrev row_case_list : List Case
+abbrev pub row_case_list : List Case
 row_case_list =
     of_row 1 9 (done_with 1 4) 1
     ∷ of_row 1 4 (done_with 1 4) 1
@@ -118,9 +114,6 @@ row_case_list =
     ∷ of_row 11 12 (spent_with 10 12) 10
     ∷ of_row 11 10 (spent_with 8 10) 8
     ∷ []
-
-pub row_cases : Hold row_case_list
-row_cases = rw row_opened
 
 -- ---- refusals, each alone: k 4, allowance 3, slices of 8 and 16 numbers, and the refusal
 
