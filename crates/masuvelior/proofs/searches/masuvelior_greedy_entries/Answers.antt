@@ -1,0 +1,9 @@
+use mathlib.Core.List.{[], ◌∷◌}
+use Rattle.ffi.specs.Left.{ended}
+use Rattle.ffi.proofs.Leaving.{search_left_lem}
+use Rattle.masuvelior.proofs.searches.masuvelior_greedy_entries.Goals as goal
+
+pub returns : goal.returns
+returns c =
+    let g = c.args in
+    search_left_lem ended (g.listed.now ∷ g.spent.now ∷ g.number.now ∷ []) c.top_k.ensures c.greedy_entries-answer.ensures
