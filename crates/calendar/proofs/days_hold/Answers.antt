@@ -23,9 +23,9 @@ loop-d-init c =
 pub pair_holds-requires : goal.pair_holds-requires
 unfolding kinds kind_of days_in
 pair_holds-requires c = record {
-      d_in_bounds = omega arith;
-      table_value = refl;
-    }
+  d_in_bounds = omega arith;
+  table_value = refl;
+}
 
 pub returns-then-not-pair_holds : goal.returns-then-not-pair_holds
 returns-then-not-pair_holds c =
