@@ -20,6 +20,7 @@ pub mod Covering
 pub mod Probing
 pub mod Repeated
 pub mod Weighted
+pub mod Calendar
 pub mod WeightedCases
 pub mod Papers
 pub mod Questions

@@ -11,6 +11,8 @@ pub mod Queries
 pub mod Papers
 pub mod TopK
 pub mod Search
+pub mod Calendar
+pub mod Dated
 pub mod RarestFirst
 pub mod Weighted
 pub mod Grammar
@@ -38,3 +40,4 @@ pub mod ReadingCases
 pub mod BooleanCases
 pub mod RankSetCases
 pub mod RarestFirstCases
+pub mod CalendarCases

@@ -8,7 +8,7 @@ use Rattle.model.specs.Rows.{height}
 use Rattle.model.specs.Opening.{opened}
 use Rattle.model.specs.Queries.{Range, bounds_of, Pair, listing}
 use Rattle.model.specs.TopK.{inner_nodes, ranking, need_of, need, Answer, done, spent, Ended, SearchResult, found_into, found_of, with_places}
-use Rattle.model.specs.Search.{listable, occupied}
+use Rattle.model.specs.Search.{occupied}
 use Rattle.model.specs.Calendar.{is_day}
 
 -- ---- days in force
@@ -31,6 +31,12 @@ pair_holds days d = (is_day (begins days d) && is_day (ends days d)) && leb (beg
 -- "just two days a sheet", the asked day and all listed ones of the calendar, and no first day after the last. Else it is refusal 20
 unfoldable pub days_hold : ℕ → List ℕ → ℕ → Bool
 days_hold N days day = eqb (length days) (2 * N) && (is_day day && all (pair_holds days) (below N))
+
+-- ---- which documents are shown
+
+-- a test of documents, as one of pairs
+abbrev pub listable : (ℕ → Bool) → Pair → Bool
+listable shown p = shown p.document
 
 -- ---- the list, its need and what is covered, over any test for the documents that are shown: here those in force
 

@@ -1,4 +1,6 @@
 // The calendar of the dated questions, and the days on which documents are in force. Document 02, M-109.
+#![tactic(auto)]
+
 ghost use Rattle.std.specs.Prelude.{◌≡◌, ◌+◌, ◌*◌, ◌≤◌, length};
 ghost use Rattle.model.specs.Calendar.{leap, days_in, is_day};
 ghost use Rattle.model.specs.Dated.{in_force, pair_holds, days_hold};
