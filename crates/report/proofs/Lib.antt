@@ -1,6 +1,5 @@
 -- Laws of text in a slice, and of what the report shows.
 pub mod Typing
-pub mod Powers
 pub mod Decimals
 pub mod Reported
 pub mod Entries

@@ -1,5 +1,3 @@
 -- What the contracts of report cite.
-pub mod Counts
-pub mod Digits
 pub mod Report
 pub mod Types

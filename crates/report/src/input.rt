@@ -1,5 +1,5 @@
 // The input of a program.
-ghost use Rattle.report.specs.Counts.{IsPrefixLen};
+ghost use Rattle.io.specs.Counts.{IsPrefixLen};
 
 use std::io::Read;
 

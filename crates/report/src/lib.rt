@@ -1,7 +1,6 @@
 // The report of the program `shortlist`: the bytes that it writes, from the bytes that it reads.
 #![tactic(auto)]
 
-mod digits;
 mod input;
 mod program;
 mod text;

@@ -2,7 +2,7 @@
 ghost use Rattle.std.specs.Prelude.{◌≡◌, ◌*◌, ◌≤◌, length, take};
 ghost use Rattle.moves.specs.Results.{topKOf};
 ghost use Rattle.report.specs.Report.{lines_of, answer_to, text_of, report, shown, written};
-ghost use Rattle.report.specs.Counts.{IsPrefixLen};
+ghost use Rattle.io.specs.Counts.{IsPrefixLen};
 ghost use Rattle.report.specs.Types.{Types, text_in, Listed};
 
 use crate::text::{put_last, put_line};

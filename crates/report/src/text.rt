@@ -3,8 +3,6 @@ ghost use Rattle.std.specs.Prelude.{[], ◌∷◌, ◌≤◌, length};
 ghost use Rattle.report.specs.Report.{decimal, line_of, last_line};
 ghost use Rattle.report.specs.Types.{Types};
 
-use crate::digits;
-
 fn put_byte(output: &mut [u8], at: usize, byte: u8) -> usize
     requires { at ≤ length output.old }
     ensures { Types (byte ∷ []) at output.old result output.new }
@@ -34,9 +32,9 @@ fn put_decimal(output: &mut [u8], at: usize, x: u32) -> usize
     requires { at ≤ length output.old }
     ensures { Types (decimal x) at output.old result output.new }
 {
-    let mut text = [0u8; 20];
-    let n = digits::decimal(x as u64, &mut text);
-    put_text(output, at, &text[..n])
+    let mut digits = [0u8; 20];
+    let n = io::decimal(x as u64, &mut digits);
+    put_text(output, at, &digits[..n])
 }
 
 // A space and a number.
