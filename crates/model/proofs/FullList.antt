@@ -1,6 +1,6 @@
 -- The first k of the documents below N that pass a test, in the order of any count: demand 3's sentences of the full list, for the shortlist by count
 -- (`top_k/proofs/Demand3/FullList`) and for the weighted one (`Weighted/Demand`).
-use Prim.Native.Nat.{ℕ, ◌+◌, ◌≤◌, ◌<◌, min}
+use Prim.Native.Nat.{ℕ, ◌≤◌, ◌<◌, min}
 use native.Mathlib.Omega.{arith}
 use native.Mathlib.Nat.{zero-add}
 use mathlib.Core.Path.{◌≡◌, refl, sym, ap, ◌∙◌, subst}

@@ -1,7 +1,7 @@
 -- Worked readings of questions with and, or, not, document 02, M-104, proved on the definitions: what is read as what, what has no reading, and the ends of
 -- depth and length.
 use Rattle.std.specs.Prelude.{ℕ, zero, suc, ◌≡◌, refl, List, [], ◌∷◌, ◌++◌, map, length, replicate}
-use Rattle.std.proofs.Math.Option.{Option, none, some}
+use Rattle.std.proofs.Math.Option.{none, some}
 use Rattle.model.specs.Grammar.{Expression, term, complement, both, either}
 use Rattle.model.specs.Reading.{reading}
 

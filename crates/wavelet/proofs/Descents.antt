@@ -15,7 +15,7 @@ use Rattle.bits.specs.Sequences.{tally, rank}
 use Rattle.bits.proofs.Tally.{tally_le_length}
 use Rattle.model.specs.Lists.{part, Within}
 use Rattle.model.specs.Rows.{row}
-use Rattle.model.specs.Walk.{key, pos}
+use Rattle.model.specs.Walk.{key}
 use Rattle.model.proofs.Lists.{within_at, length_part, tally_within, within_part}
 use Rattle.model.proofs.Wavelet.Rows.{row-length, row-pos_lt, row-bit, key_half, key_lt, key-root, key_leaf, tally-before-root, row-ones, count-halves, count-start, count_middle}
 use Rattle.model.proofs.Wavelet.Rank.{tally_leaf}

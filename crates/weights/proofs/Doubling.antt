@@ -5,7 +5,7 @@ use native.Mathlib.Omega.{arith}
 use native.Mathlib.Nat.{mul-le-mul, one-mul, one-le-pow, add-mul, two-pow-succ, pow-le-pow_left}
 use mathlib.Core.Path.{◌≡◌, sym, ap, ◌∙◌, subst}
 use Rattle.model.specs.Weighted.{weight}
-use Rattle.model.proofs.Weighted.Weights.{fourth, weight-largest, largest-of, largest_unique, fits_le_48}
+use Rattle.model.proofs.Weighted.Weights.{weight-largest, largest-of, largest_unique, fits_le_48}
 
 -- the fourth power of a number up to 4,096
 pub fourth_few : (x : ℕ) → x ≤ 4096 → (x * x ≤ 16777216) × (x * x * (x * x) ≤ 281474976710656)

@@ -2,7 +2,7 @@
 use Prim.Native.Nat.{ℕ, zero, suc, ◌+◌, ◌≤◌, ◌<◌}
 use native.Mathlib.Nat.{zero-add}
 use native.Mathlib.Omega.{arith}
-use mathlib.Core.Path.{◌≡◌, refl, sym, ap, ◌∙◌}
+use mathlib.Core.Path.{◌≡◌, refl, ap, ◌∙◌}
 use mathlib.Core.Logic.{◌⊎◌, inl, inr}
 use mathlib.Core.List.{List}
 use mathlib.Core.Option.{Option, none, some}
@@ -16,7 +16,6 @@ use Rattle.model.specs.Lists.{any, Every, Sorted}
 use Rattle.model.specs.Outcome.{answered, refused, refuse, and_then}
 use Rattle.model.specs.Format.{Library}
 use Rattle.model.specs.Opening.{opened}
-use Rattle.model.specs.Queries.{PairsResult}
 use Rattle.model.specs.Grammar.{Expression, IsReading}
 use Rattle.model.specs.Reading.{reading}
 use Rattle.model.specs.Boolean.{entered, matches, documents_of, words_in, or_unread, documents_into, boolean_result}

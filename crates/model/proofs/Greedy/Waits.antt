@@ -20,7 +20,7 @@ use Rattle.model.proofs.Greedy.Abstract.{Counted}
 use Rattle.model.proofs.Greedy.Nodes.{living, leafly, leaf_under, living-documents, start_leaf, start_le_place, place_le_start}
 use Rattle.model.proofs.Greedy.Frontier.{join, halves, ready_root, ready_name, ready_open, ready_apart, prior_node}
 use Rattle.model.proofs.Greedy.Moves.{wait-join, wait-halves}
-use Rattle.model.proofs.Greedy.Counts.{counted, outside}
+use Rattle.model.proofs.Greedy.Counts.{outside}
 use Rattle.model.proofs.Priority.{Ahead, ahead_true}
 
 pub blocks-waiting : (count : Node → ℕ) (ms : List Node) → blocks (map (waiting count) ms) ≡ ms

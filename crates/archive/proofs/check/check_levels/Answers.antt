@@ -25,7 +25,7 @@ unused_hold-requires c = laid_placed c.args.archive.now c.args.l c.requires
 pub returns-then-not-unused_hold : goal.returns-then-not-unused_hold
 returns-then-not-unused_hold c =
     let sampled : all (sampled_at c.args.archive.now c.args.l.levels) (below c.args.l.levels.height) ≡ true =
-        sym c.samples_hold.ensures ∙ c.if-not-samples_hold.false in
+    sym c.samples_hold.ensures ∙ c.if-not-samples_hold.false in
     let s = c.args in
     let e : all (clear_at s.archive.now s.l.levels) (below s.l.levels.height) ≡ false
     = sym c.unused_hold.ensures ∙ c.if-not-unused_hold.true in
@@ -34,16 +34,16 @@ returns-then-not-unused_hold c =
 pub entries_hold-requires : goal.entries_hold-requires
 entries_hold-requires c =
     let sampled : all (sampled_at c.args.archive.now c.args.l.levels) (below c.args.l.levels.height) ≡ true =
-        sym c.samples_hold.ensures ∙ c.if-not-samples_hold.false in
+    sym c.samples_hold.ensures ∙ c.if-not-samples_hold.false in
     let s = c in
     placed_stored s.args.archive.now s.args.l.levels (laid_placed s.args.archive.now s.args.l s.requires) (sampled)
 
 pub returns-then-not-entries_hold : goal.returns-then-not-entries_hold
 returns-then-not-entries_hold c =
     let sampled : all (sampled_at c.args.archive.now c.args.l.levels) (below c.args.l.levels.height) ≡ true =
-        sym c.samples_hold.ensures ∙ c.if-not-samples_hold.false in
+    sym c.samples_hold.ensures ∙ c.if-not-samples_hold.false in
     let clear : all (clear_at c.args.archive.now c.args.l.levels) (below c.args.l.levels.height) ≡ true =
-        sym c.unused_hold.ensures ∙ c.if-not-unused_hold.false in
+    sym c.unused_hold.ensures ∙ c.if-not-unused_hold.false in
     let s = c.args in
     let e : not (any (leb s.l.documents) (entries_in s.archive.now s.l.levels)) ≡ false
     = sym c.entries_hold.ensures ∙ c.if-not-entries_hold.true in
@@ -52,9 +52,9 @@ returns-then-not-entries_hold c =
 pub returns : goal.returns
 returns c =
     let sampled : all (sampled_at c.args.archive.now c.args.l.levels) (below c.args.l.levels.height) ≡ true =
-        sym c.samples_hold.ensures ∙ c.if-not-samples_hold.false in
+    sym c.samples_hold.ensures ∙ c.if-not-samples_hold.false in
     let clear : all (clear_at c.args.archive.now c.args.l.levels) (below c.args.l.levels.height) ≡ true =
-        sym c.unused_hold.ensures ∙ c.if-not-unused_hold.false in
+    sym c.unused_hold.ensures ∙ c.if-not-unused_hold.false in
     let s = c in
     let e : not (any (leb s.args.l.documents) (entries_in s.args.archive.now s.args.l.levels)) ≡ true
     = sym c.entries_hold.ensures ∙ c.if-not-entries_hold.false in

@@ -18,16 +18,16 @@ returns-then-not-pairs_hold c =
 pub returns-then-archive-archive_length : goal.returns-then-archive-archive_length
 returns-then-archive-archive_length c =
     let paired : pairs_hold c.args.archive.now (sizes_in c.args.l) ≡ true =
-        sym c.pairs_hold.ensures ∙ c.if-not-pairs_hold.false in
+    sym c.pairs_hold.ensures ∙ c.if-not-pairs_hold.false in
     let s = c.args in
     (rw (paired, ne_eqb (length s.archive.now) (archive_length (sizes_in s.l)) (λ e. c.if-archive-archive_length.true (e ∙ sym c.archive_length.ensures.0))), tt)
 
 pub returns-then-not-table_holds : goal.returns-then-not-table_holds
 returns-then-not-table_holds c =
     let paired : pairs_hold c.args.archive.now (sizes_in c.args.l) ≡ true =
-        sym c.pairs_hold.ensures ∙ c.if-not-pairs_hold.false in
+    sym c.pairs_hold.ensures ∙ c.if-not-pairs_hold.false in
     let sized : eqb (length c.args.archive.now) (archive_length (sizes_in c.args.l)) ≡ true =
-        eq-eqb (length c.args.archive.now) (archive_length (sizes_in c.args.l)) (c.if-archive-archive_length.false ∙ c.archive_length.ensures.0) in
+    eq-eqb (length c.args.archive.now) (archive_length (sizes_in c.args.l)) (c.if-archive-archive_length.false ∙ c.archive_length.ensures.0) in
     let s = c.args in
     let e : table_holds s.archive.now s.l.levels.entries 0 (below s.l.terms) ≡ false
     = sym c.table_holds.ensures ∙ c.if-not-table_holds.true in
@@ -36,9 +36,9 @@ returns-then-not-table_holds c =
 pub returns : goal.returns
 returns c =
     let paired : pairs_hold c.args.archive.now (sizes_in c.args.l) ≡ true =
-        sym c.pairs_hold.ensures ∙ c.if-not-pairs_hold.false in
+    sym c.pairs_hold.ensures ∙ c.if-not-pairs_hold.false in
     let sized : eqb (length c.args.archive.now) (archive_length (sizes_in c.args.l)) ≡ true =
-        eq-eqb (length c.args.archive.now) (archive_length (sizes_in c.args.l)) (c.if-archive-archive_length.false ∙ c.archive_length.ensures.0) in
+    eq-eqb (length c.args.archive.now) (archive_length (sizes_in c.args.l)) (c.if-archive-archive_length.false ∙ c.archive_length.ensures.0) in
     let s = c.args in
     let e : table_holds s.archive.now s.l.levels.entries 0 (below s.l.terms) ≡ true
     = sym c.table_holds.ensures ∙ c.if-not-table_holds.false in

@@ -18,10 +18,10 @@ returns-then-number-ne1 c =
 pub returns-then-not-within_limits : goal.returns-then-not-within_limits
 returns-then-not-within_limits c =
     let sizes : sizes_at c.args.archive.now ≡ record { entries = c.number-n.result; documents = c.number-documents.result; terms = c.number-terms.result } =
-        let n = sym c.number-n.ensures.0 in
-        let d = sym c.number-documents.ensures.0 in
-        let w = sym c.number-terms.ensures.0 in
-        λ i. record { entries = n i; documents = d i; terms = w i } in
+    let n = sym c.number-n.ensures.0 in
+    let d = sym c.number-documents.ensures.0 in
+    let w = sym c.number-terms.ensures.0 in
+    λ i. record { entries = n i; documents = d i; terms = w i } in
     let bytes = c.args.archive.now in
     let e : within_limits (sizes_at bytes) ≡ false = ap within_limits (sizes) ∙ sym c.within_limits.ensures ∙ c.if-not-within_limits.true in
     (sym (limits_refused bytes c.if-archive-lt40.false (sym c.number.ensures.0 ∙ c.if-number-ne1.false) e), tt)
@@ -29,18 +29,18 @@ returns-then-not-within_limits c =
 pub layout_of-requires : goal.layout_of-requires
 layout_of-requires c =
     let read : Sizes =
-        record { entries = c.number-n.result; documents = c.number-documents.result; terms = c.number-terms.result } in
+    record { entries = c.number-n.result; documents = c.number-documents.result; terms = c.number-terms.result } in
     let within : within_limits (read) ≡ true =
-        sym c.within_limits.ensures ∙ c.if-not-within_limits.false in
+    sym c.within_limits.ensures ∙ c.if-not-within_limits.false in
     let l = limits_of (read) (within) in
     (l.entries, l.some_document, l.documents, l.some_term, l.terms)
 
 pub check_parts-requires : goal.check_parts-requires
 check_parts-requires c =
     let read : Sizes =
-        record { entries = c.number-n.result; documents = c.number-documents.result; terms = c.number-terms.result } in
+    record { entries = c.number-n.result; documents = c.number-documents.result; terms = c.number-terms.result } in
     let within : within_limits (read) ≡ true =
-        sym c.within_limits.ensures ∙ c.if-not-within_limits.false in
+    sym c.within_limits.ensures ∙ c.if-not-within_limits.false in
     let l = limits_of (read) (within) in record {
       in_bounds = c.if-archive-lt40.false;
       fitting = subst Fitting (sym c.layout_of.ensures) (record { entries = l.entries; documents = l.documents; terms = l.terms; shape = refl });
@@ -49,14 +49,14 @@ check_parts-requires c =
 pub returns : goal.returns
 returns c =
     let sizes : sizes_at c.args.archive.now ≡ record { entries = c.number-n.result; documents = c.number-documents.result; terms = c.number-terms.result } =
-        let n = sym c.number-n.ensures.0 in
-        let d = sym c.number-documents.ensures.0 in
-        let w = sym c.number-terms.ensures.0 in
-        λ i. record { entries = n i; documents = d i; terms = w i } in
+    let n = sym c.number-n.ensures.0 in
+    let d = sym c.number-documents.ensures.0 in
+    let w = sym c.number-terms.ensures.0 in
+    λ i. record { entries = n i; documents = d i; terms = w i } in
     let read : Sizes =
-        record { entries = c.number-n.result; documents = c.number-documents.result; terms = c.number-terms.result } in
+    record { entries = c.number-n.result; documents = c.number-documents.result; terms = c.number-terms.result } in
     let within : within_limits (read) ≡ true =
-        sym c.within_limits.ensures ∙ c.if-not-within_limits.false in
+    sym c.within_limits.ensures ∙ c.if-not-within_limits.false in
     let bytes = c.args.archive.now in
     let e = sizes in (
       c.check_parts.ensures.0

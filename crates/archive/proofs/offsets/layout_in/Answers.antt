@@ -27,10 +27,10 @@ number-requires-3 c = omega (arith, long c.args.archive.now c.requires)
 pub layout_of-requires : goal.layout_of-requires
 layout_of-requires c =
     let sizes : sizes_at c.args.archive.now ≡ record { entries = c.number.result; documents = c.number-2.result; terms = c.number-3.result } =
-        let n = sym c.number.ensures.0 in
-        let d = sym c.number-2.ensures.0 in
-        let w = sym c.number-3.ensures.0 in
-        λ i. record { entries = n i; documents = d i; terms = w i } in
+    let n = sym c.number.ensures.0 in
+    let d = sym c.number-2.ensures.0 in
+    let w = sym c.number-3.ensures.0 in
+    λ i. record { entries = n i; documents = d i; terms = w i } in
     let s = c in
     let l = subst Limits (sizes) (limits s.args.archive.now (layout_of (sizes_at s.args.archive.now)) (archive_opened s.args.archive.now s.requires)) in
     (l.entries, l.some_document, l.documents, l.some_term, l.terms)
@@ -38,9 +38,9 @@ layout_of-requires c =
 pub returns : goal.returns
 returns c =
     let sizes : sizes_at c.args.archive.now ≡ record { entries = c.number.result; documents = c.number-2.result; terms = c.number-3.result } =
-        let n = sym c.number.ensures.0 in
-        let d = sym c.number-2.ensures.0 in
-        let w = sym c.number-3.ensures.0 in
-        λ i. record { entries = n i; documents = d i; terms = w i } in
+    let n = sym c.number.ensures.0 in
+    let d = sym c.number-2.ensures.0 in
+    let w = sym c.number-3.ensures.0 in
+    λ i. record { entries = n i; documents = d i; terms = w i } in
     let s = c in
     subst (Opened s.args.archive.now) (ap layout_of (sizes) ∙ sym c.layout_of.ensures) (archive_opened s.args.archive.now s.requires)

@@ -17,19 +17,19 @@ returns-then-t-l c =
 pub overflow_mul-t : goal.overflow_mul-t
 overflow_mul-t c =
     let inside : 40 + 8 * c.args.t + 8 ≤ length c.args.archive.now =
-        let s = c in pair_end s.args.archive.now s.args.l s.requires.opened s.args.t (omega arith) in
+    let s = c in pair_end s.args.archive.now s.args.l s.requires.opened s.args.t (omega arith) in
     let e = inside in omega arith
 
 pub overflow_add-t : goal.overflow_add-t
 overflow_add-t c =
     let inside : 40 + 8 * c.args.t + 8 ≤ length c.args.archive.now =
-        let s = c in pair_end s.args.archive.now s.args.l s.requires.opened s.args.t (omega arith) in
+    let s = c in pair_end s.args.archive.now s.args.l s.requires.opened s.args.t (omega arith) in
     let e = inside in omega arith
 
 pub number-requires : goal.number-requires
 number-requires c =
     let inside : 40 + 8 * c.args.t + 8 ≤ length c.args.archive.now =
-        let s = c in pair_end s.args.archive.now s.args.l s.requires.opened s.args.t (omega arith) in
+    let s = c in pair_end s.args.archive.now s.args.l s.requires.opened s.args.t (omega arith) in
     let e = inside in omega arith
 
 pub returns : goal.returns

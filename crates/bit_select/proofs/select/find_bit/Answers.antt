@@ -1,5 +1,4 @@
 use mathlib.Core.Path.{sym, ◌∙◌}
-use mathlib.Core.Logic.{⊎_elim}
 use native.Mathlib.Numerals.{add-one}
 use native.Mathlib.Omega.{arith}
 use Rattle.bits.specs.Bits.{bit_at}
@@ -24,8 +23,8 @@ loop-i-preserved c =
     let b = c.bit.ensures.0 in
     let step = rw (← add-one i) at (count-suc v row i) in
     elim c.if-bit-v.branch [
-      then-bit-v+else-count-j w ↦ omega (arith, step, bit_eq v (bit_at row i) (sym w.if-bit-v.true ∙ b))
-    | else-bit-v w ↦ omega (arith, step, bit_ne v (bit_at row i) (λ q. w.if-bit-v.false (b ∙ sym q)))
+      | then-bit-v+else-count-j w ↦ omega (arith, step, bit_eq v (bit_at row i) (sym w.if-bit-v.true ∙ b))
+      | else-bit-v w ↦ omega (arith, step, bit_ne v (bit_at row i) (λ q. w.if-bit-v.false (b ∙ sym q)))
     ]
 
 pub returns : goal.returns

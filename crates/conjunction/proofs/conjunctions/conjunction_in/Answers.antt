@@ -21,9 +21,9 @@ use Rattle.conjunction.proofs.conjunctions.conjunction_in.Goals as goal
 
 pub put_root-requires : goal.put_root-requires
 put_root-requires c = let s = c in record {
-      opened = s.requires.opened;
-      asked = (s.requires.asked.0, refl);
-    }
+  opened = s.requires.opened;
+  asked = (s.requires.asked.0, refl);
+}
 
 pub loop-document-init : goal.loop-document-init
 loop-document-init c =
@@ -39,9 +39,9 @@ slice_bounds-next_common-end c = sym c.loop-document.invariant.2
 pub next_common-requires : goal.next_common-requires
 next_common-requires c =
     let documents : (contents c.args.archive.now).documents ≡ c.args.l.documents =
-        documents-are c.args.archive.now c.args.l c.requires.opened in
+    documents-are c.args.archive.now c.args.l c.requires.opened in
     let fit : c.args.l.documents ≤ 2 ^ c.args.l.levels.height =
-        documents_fit c.args.archive.now c.args.l c.requires.opened in
+    documents_fit c.args.archive.now c.args.l c.requires.opened in
     let s = c in
     let k = c.loop-document in
     let low : k.at ≤ s.args.l.documents = subst (λ (n : ℕ). k.at ≤ n) (documents) k.invariant.0.low in record {
@@ -58,9 +58,9 @@ shape_of-answers-in_default c =
 pub returns-in_default : goal.returns-in_default
 returns-in_default c =
     let documents : (contents c.args.archive.now).documents ≡ c.args.l.documents =
-        documents-are c.args.archive.now c.args.l c.requires.opened in
+    documents-are c.args.archive.now c.args.l c.requires.opened in
     let fit : c.args.l.documents ≤ 2 ^ c.args.l.levels.height =
-        documents_fit c.args.archive.now c.args.l c.requires.opened in
+    documents_fit c.args.archive.now c.args.l c.requires.opened in
     let s = c in
     let g = s.args in
     let said = sym c.next_common.ensures.0 ∙ ap next_of c.in_default.is in
@@ -70,22 +70,22 @@ returns-in_default c =
 pub put_pair-requires : goal.put_pair-requires
 put_pair-requires c =
     let eight : length c.args.q.numbers ≡ 8 =
-        search rules in
+    search rules in
     let few : c.args.l.documents ≤ 4096 =
-        (fitting c.args.archive.now c.args.l c.requires.opened).documents in
+    (fitting c.args.archive.now c.args.l c.requires.opened).documents in
     let document : ℕ =
-        c.in-Document.document in
+    c.in-Document.document in
     let count : ℕ =
-        c.in-Document.count in
+    c.in-Document.count in
     let said : next_common (counts_under (contents c.args.archive.now) (terms_of c.args.q)) c.args.l.levels.height c.loop-document.at
     ≡ next_is (document) (count) =
-        sym c.next_common.ensures.0 ∙ ap next_of c.in-Document.is in
+    sym c.next_common.ensures.0 ∙ ap next_of c.in-Document.is in
     let turned : Turn c.args.l c.loop-document.at (document) (count) =
-        let s = c in
-        turn s.args.archive.now s.args.l s.requires.opened s.args.q s.requires.asked.0 (eight) c.loop-document.at (document) (count) (said) in
+    let s = c in
+    turn s.args.archive.now s.args.l s.requires.opened s.args.q s.requires.asked.0 (eight) c.loop-document.at (document) (count) (said) in
     let listed : c.loop-document.found ≤ c.loop-document.at =
-        let g = c.args in
-        walking_few (contents g.archive.now) g.l.levels.height (terms_of g.q) g.answers.now c.loop-document.invariant.0 in
+    let g = c.args in
+    walking_few (contents g.archive.now) g.l.levels.height (terms_of g.q) g.answers.now c.loop-document.invariant.0 in
     let s = c in
     let g = s.args in
     let k = c.loop-document in
@@ -95,74 +95,74 @@ put_pair-requires c =
 pub overflow_add-found : goal.overflow_add-found
 overflow_add-found c =
     let eight : length c.args.q.numbers ≡ 8 =
-        search rules in
+    search rules in
     let few : c.args.l.documents ≤ 4096 =
-        (fitting c.args.archive.now c.args.l c.requires.opened).documents in
+    (fitting c.args.archive.now c.args.l c.requires.opened).documents in
     let document : ℕ =
-        c.in-Document.document in
+    c.in-Document.document in
     let count : ℕ =
-        c.in-Document.count in
+    c.in-Document.count in
     let said : next_common (counts_under (contents c.args.archive.now) (terms_of c.args.q)) c.args.l.levels.height c.loop-document.at
     ≡ next_is (document) (count) =
-        sym c.next_common.ensures.0 ∙ ap next_of c.in-Document.is in
+    sym c.next_common.ensures.0 ∙ ap next_of c.in-Document.is in
     let turned : Turn c.args.l c.loop-document.at (document) (count) =
-        let s = c in
-        turn s.args.archive.now s.args.l s.requires.opened s.args.q s.requires.asked.0 (eight) c.loop-document.at (document) (count) (said) in
+    let s = c in
+    turn s.args.archive.now s.args.l s.requires.opened s.args.q s.requires.asked.0 (eight) c.loop-document.at (document) (count) (said) in
     let listed : c.loop-document.found ≤ c.loop-document.at =
-        let g = c.args in
-        walking_few (contents g.archive.now) g.l.levels.height (terms_of g.q) g.answers.now c.loop-document.invariant.0 in
+    let g = c.args in
+    walking_few (contents g.archive.now) g.l.levels.height (terms_of g.q) g.answers.now c.loop-document.invariant.0 in
     found_fits (turned) (listed) (few)
 
 pub overflow_add-at : goal.overflow_add-at
 overflow_add-at c =
     let eight : length c.args.q.numbers ≡ 8 =
-        search rules in
+    search rules in
     let few : c.args.l.documents ≤ 4096 =
-        (fitting c.args.archive.now c.args.l c.requires.opened).documents in
+    (fitting c.args.archive.now c.args.l c.requires.opened).documents in
     let document : ℕ =
-        c.in-Document.document in
+    c.in-Document.document in
     let count : ℕ =
-        c.in-Document.count in
+    c.in-Document.count in
     let said : next_common (counts_under (contents c.args.archive.now) (terms_of c.args.q)) c.args.l.levels.height c.loop-document.at
     ≡ next_is (document) (count) =
-        sym c.next_common.ensures.0 ∙ ap next_of c.in-Document.is in
+    sym c.next_common.ensures.0 ∙ ap next_of c.in-Document.is in
     let turned : Turn c.args.l c.loop-document.at (document) (count) =
-        let s = c in
-        turn s.args.archive.now s.args.l s.requires.opened s.args.q s.requires.asked.0 (eight) c.loop-document.at (document) (count) (said) in
+    let s = c in
+    turn s.args.archive.now s.args.l s.requires.opened s.args.q s.requires.asked.0 (eight) c.loop-document.at (document) (count) (said) in
     at_fits (turned) (few)
 
 pub loop-document-smaller : goal.loop-document-smaller
 loop-document-smaller c =
     let eight : length c.args.q.numbers ≡ 8 =
-        search rules in
+    search rules in
     let document : ℕ =
-        c.in-Document.document in
+    c.in-Document.document in
     let count : ℕ =
-        c.in-Document.count in
+    c.in-Document.count in
     let said : next_common (counts_under (contents c.args.archive.now) (terms_of c.args.q)) c.args.l.levels.height c.loop-document.at
     ≡ next_is (document) (count) =
-        sym c.next_common.ensures.0 ∙ ap next_of c.in-Document.is in
+    sym c.next_common.ensures.0 ∙ ap next_of c.in-Document.is in
     let turned : Turn c.args.l c.loop-document.at (document) (count) =
-        let s = c in
-        turn s.args.archive.now s.args.l s.requires.opened s.args.q s.requires.asked.0 (eight) c.loop-document.at (document) (count) (said) in
+    let s = c in
+    turn s.args.archive.now s.args.l s.requires.opened s.args.q s.requires.asked.0 (eight) c.loop-document.at (document) (count) (said) in
     walk_less (turned)
 
 pub loop-document-preserved : goal.loop-document-preserved
 loop-document-preserved c =
     let eight : length c.args.q.numbers ≡ 8 =
-        search rules in
+    search rules in
     let documents : (contents c.args.archive.now).documents ≡ c.args.l.documents =
-        documents-are c.args.archive.now c.args.l c.requires.opened in
+    documents-are c.args.archive.now c.args.l c.requires.opened in
     let document : ℕ =
-        c.in-Document.document in
+    c.in-Document.document in
     let count : ℕ =
-        c.in-Document.count in
+    c.in-Document.count in
     let said : next_common (counts_under (contents c.args.archive.now) (terms_of c.args.q)) c.args.l.levels.height c.loop-document.at
     ≡ next_is (document) (count) =
-        sym c.next_common.ensures.0 ∙ ap next_of c.in-Document.is in
+    sym c.next_common.ensures.0 ∙ ap next_of c.in-Document.is in
     let turned : Turn c.args.l c.loop-document.at (document) (count) =
-        let s = c in
-        turn s.args.archive.now s.args.l s.requires.opened s.args.q s.requires.asked.0 (eight) c.loop-document.at (document) (count) (said) in
+    let s = c in
+    turn s.args.archive.now s.args.l s.requires.opened s.args.q s.requires.asked.0 (eight) c.loop-document.at (document) (count) (said) in
     let s = c in
     let g = s.args in
     let d = c in

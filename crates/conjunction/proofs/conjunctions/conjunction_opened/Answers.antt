@@ -55,13 +55,13 @@ returns-then-answers-l c =
 pub conjunction_in-requires : goal.conjunction_in-requires
 conjunction_in-requires c =
     let asked : Asked c.args.l.terms c.args.q =
-        let g = c.args in
-        let e : any (leb g.l.terms) (take g.q.size g.q.numbers) ≡ false = sym c.term_missing.ensures ∙ c.if-term_missing.false in
-        let z = c.if-q-eq0.false in
-        record { some = omega arith; few = c.if-q-gt8.false; known = within_any g.l.terms (take g.q.size g.q.numbers) e } in
+    let g = c.args in
+    let e : any (leb g.l.terms) (take g.q.size g.q.numbers) ≡ false = sym c.term_missing.ensures ∙ c.if-term_missing.false in
+    let z = c.if-q-eq0.false in
+    record { some = omega arith; few = c.if-q-gt8.false; known = within_any g.l.terms (take g.q.size g.q.numbers) e } in
     let asked-once : (r : Terms) → Asked c.args.l.terms c.args.q → terms_of r ≡ distinct (terms_of c.args.q) → r.size ≤ c.args.q.size
     → Asked c.args.l.terms r =
-        λ r a e l. let eight : length c.args.q.numbers ≡ 8 = search rules in asked-distinct c.args.l.terms c.args.q r eight a e l in
+    λ r a e l. let eight : length c.args.q.numbers ≡ 8 = search rules in asked-distinct c.args.l.terms c.args.q r eight a e l in
     let e = c in
     let s = e in
     let d = c.distinct-terms in record {

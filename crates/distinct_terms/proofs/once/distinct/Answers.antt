@@ -24,9 +24,9 @@ loop-i-preserved c =
     let inside : k.i < length g.q.numbers = omega (arith, s.requires) in
     let said = c.stands_before.ensures in (
       elim c.if-not-stands_before.branch [
-            then-not-stands_before w ↦ rw (w.numbers-is, w.size-is) (keeping_new g.q.numbers k.i inside k.numbers k.size k.invariant.0 (omega arith) (sym said ∙ w.if-not-stands_before.true))
-          | else-not-stands_before w ↦ rw (w.numbers-is, w.size-is) (keeping_old g.q.numbers k.i inside k.numbers k.size k.invariant.0 (sym said ∙ w.if-not-stands_before.false))
-          ],
+        | then-not-stands_before w ↦ rw (w.numbers-is, w.size-is) (keeping_new g.q.numbers k.i inside k.numbers k.size k.invariant.0 (omega arith) (sym said ∙ w.if-not-stands_before.true))
+        | else-not-stands_before w ↦ rw (w.numbers-is, w.size-is) (keeping_old g.q.numbers k.i inside k.numbers k.size k.invariant.0 (sym said ∙ w.if-not-stands_before.false))
+      ],
       omega arith,
     )
 

@@ -18,7 +18,7 @@ pub returns-then-not-within_limits : goal.returns-then-not-within_limits
 unfolding given
 returns-then-not-within_limits c =
     let sizes_of : Sizes =
-        record { entries = c.args.n; documents = c.args.documents; terms = c.args.terms } in
+    record { entries = c.args.n; documents = c.args.documents; terms = c.args.terms } in
     let s = c in
     let e : within_limits (sizes_of) ≡ false = sym c.within_limits.ensures ∙ c.if-not-within_limits.true in
     sym (ap (answer_for (sizes_of) s.args.length.now) e)
@@ -26,18 +26,18 @@ returns-then-not-within_limits c =
 pub layout_of-requires : goal.layout_of-requires
 layout_of-requires c =
     let sizes_of : Sizes =
-        record { entries = c.args.n; documents = c.args.documents; terms = c.args.terms } in
+    record { entries = c.args.n; documents = c.args.documents; terms = c.args.terms } in
     let within : within_limits (sizes_of) ≡ true =
-        sym c.within_limits.ensures ∙ c.if-not-within_limits.false in
+    sym c.within_limits.ensures ∙ c.if-not-within_limits.false in
     let l = limits_of (sizes_of) (within) in
     (l.entries, l.some_document, l.documents, l.some_term, l.terms)
 
 pub archive_length-requires : goal.archive_length-requires
 archive_length-requires c =
     let sizes_of : Sizes =
-        record { entries = c.args.n; documents = c.args.documents; terms = c.args.terms } in
+    record { entries = c.args.n; documents = c.args.documents; terms = c.args.terms } in
     let within : within_limits (sizes_of) ≡ true =
-        sym c.within_limits.ensures ∙ c.if-not-within_limits.false in
+    sym c.within_limits.ensures ∙ c.if-not-within_limits.false in
     let l = limits_of (sizes_of) (within) in
     subst Fitting (sym c.layout_of.ensures) (record { entries = l.entries; documents = l.documents; terms = l.terms; shape = refl })
 
@@ -45,9 +45,9 @@ pub returns : goal.returns
 unfolding given
 returns c =
     let sizes_of : Sizes =
-        record { entries = c.args.n; documents = c.args.documents; terms = c.args.terms } in
+    record { entries = c.args.n; documents = c.args.documents; terms = c.args.terms } in
     let within : within_limits (sizes_of) ≡ true =
-        sym c.within_limits.ensures ∙ c.if-not-within_limits.false in
+    sym c.within_limits.ensures ∙ c.if-not-within_limits.false in
     let s = c in
     let p = c.archive_length.ensures.0 ∙ ap (λ (l : Layout). archive_length (sizes_in l)) c.layout_of.ensures in
     (λ i. record { code = 0; outs = p i ∷ [] }) ∙ sym (ap (answer_for (sizes_of) s.args.length.now) (within))

@@ -1,7 +1,6 @@
 -- `after_nots` meets its contract; a 'not' stands within the question, so the work stops.
 use native.Mathlib.Omega.{arith}
 use mathlib.Core.Path.{sym, ◌∙◌}
-use Rattle.matching.specs.Parsing.{number_at}
 use Rattle.matching.proofs.Onward.{within}
 use Rattle.matching.proofs.PartsRead.{nots_next}
 use Rattle.matching.proofs.parts.after_nots.Goals as goal

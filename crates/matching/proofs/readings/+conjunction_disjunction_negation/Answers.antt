@@ -1,7 +1,7 @@
 -- The cycle of calls {conjunction, disjunction, negation}: each return and each turn of a loop is a law of PartsRead.
 -- Assumes nothing.
 use native.Mathlib.Omega.{arith}
-use Rattle.std.proofs.Common.{◌+◌, ◌-◌}
+use Rattle.std.proofs.Common.{◌+◌}
 use mathlib.Core.Path.{sym, ◌∙◌}
 use Rattle.matching.specs.Sets.{set_at}
 use Rattle.matching.specs.Parsing.{number_at, closed}

@@ -33,7 +33,7 @@ returns-then-term_missing c =
 pub rarest_first_in-terms-requires : goal.rarest_first_in-terms-requires
 rarest_first_in-terms-requires c =
     let known : any (leb c.args.layout.terms) (terms_of c.args.q) ≡ false =
-        sym c.term_missing.ensures ∙ c.if-term_missing.false in
+    sym c.term_missing.ensures ∙ c.if-term_missing.false in
     let g = c.args in
     let some = c.if-q-eq0.false in record {
       opened = c.requires;
@@ -43,7 +43,7 @@ rarest_first_in-terms-requires c =
 pub returns : goal.returns
 returns c =
     let known : any (leb c.args.layout.terms) (terms_of c.args.q) ≡ false =
-        sym c.term_missing.ensures ∙ c.if-term_missing.false in
+    sym c.term_missing.ensures ∙ c.if-term_missing.false in
     let e = c in
     let s = c in
     let o = c.rarest_first_in-terms.ensures.0 in

@@ -18,9 +18,9 @@ loop-j-init c =
 
 pub read_row-requires : goal.read_row-requires
 read_row-requires c = record {
-      readable = c.requires.readable;
-      j_lt_height = (c.loop-j-test.true, c.loop-j.invariant.1);
-    }
+  readable = c.requires.readable;
+  j_lt_height = (c.loop-j-test.true, c.loop-j.invariant.1);
+}
 
 pub loop-j-preserved : goal.loop-j-preserved
 loop-j-preserved c =

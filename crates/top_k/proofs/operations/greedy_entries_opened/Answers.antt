@@ -16,21 +16,21 @@ over-q-requires c =
 pub search_greedily-requires : goal.search_greedily-requires
 search_greedily-requires c =
     let asks : let s = c in Posed s.args.archive.now (of_entries s.args.a s.args.b) s.args.k (length s.args.answers.now) (length s.args.work.now) c.over-q.result =
-        let s = c in
-        let bytes = s.args.archive.now in
-        let r = c.entry_range-range in
-        posed bytes (of_entries s.args.a s.args.b) s.args.k (length s.args.answers.now) (length s.args.work.now) s.args.layout s.requires r.result
-        (r.ensures.0 ∙ entry_bounds_lem bytes s.args.layout s.requires s.args.a s.args.b) r.ensures.1 c.over-q.result c.over-q.ensures in
+    let s = c in
+    let bytes = s.args.archive.now in
+    let r = c.entry_range-range in
+    posed bytes (of_entries s.args.a s.args.b) s.args.k (length s.args.answers.now) (length s.args.work.now) s.args.layout s.requires r.result
+    (r.ensures.0 ∙ entry_bounds_lem bytes s.args.layout s.requires s.args.a s.args.b) r.ensures.1 c.over-q.result c.over-q.ensures in
     (asks).ready
 
 pub returns : goal.returns
 returns c =
     let asks : let s = c in Posed s.args.archive.now (of_entries s.args.a s.args.b) s.args.k (length s.args.answers.now) (length s.args.work.now) c.over-q.result =
-        let s = c in
-        let bytes = s.args.archive.now in
-        let r = c.entry_range-range in
-        posed bytes (of_entries s.args.a s.args.b) s.args.k (length s.args.answers.now) (length s.args.work.now) s.args.layout s.requires r.result
-        (r.ensures.0 ∙ entry_bounds_lem bytes s.args.layout s.requires s.args.a s.args.b) r.ensures.1 c.over-q.result c.over-q.ensures in
+    let s = c in
+    let bytes = s.args.archive.now in
+    let r = c.entry_range-range in
+    posed bytes (of_entries s.args.a s.args.b) s.args.k (length s.args.answers.now) (length s.args.work.now) s.args.layout s.requires r.result
+    (r.ensures.0 ∙ entry_bounds_lem bytes s.args.layout s.requires s.args.a s.args.b) r.ensures.1 c.over-q.result c.over-q.ensures in
     let o = c in
     let s = o in
     c.search_greedily.ensures

@@ -26,7 +26,7 @@ put_first_places-requires c =
       stored = ready.0.stored;
       a_le_b = (ready.0.ordered, ready.0.inside);
       n_in_bounds = probing_ready s.args.archive.now c.in-Over.s ready.0 s.args.k s.args.answers.now s.args.work.now ready.1.0 found.result
-            found.new.answers found.new.work found.ensures;
+          found.new.answers found.new.work found.ensures;
     }
 
 pub returns-in-Refused : goal.returns-in-Refused

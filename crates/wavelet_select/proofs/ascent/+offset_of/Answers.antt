@@ -21,22 +21,22 @@ pub offset_of-below-requires : goal.offset_of-below-requires
 offset_of-below-requires t c =
     let offset-of_middle : c.rank_node-node.result.middle
     ≡ left (level_of c.args.bytes.now c.args.t c.args.j) c.args.start c.args.end =
-        let s = c in
-        let g = s.args in
-        ap (λ (r : Ranked). r.middle) c.rank_node-node.ensures
-        ∙ middle_by_ones (level_of g.bytes.now g.t g.j) g.t.entries (level-of g.bytes.now g.t g.j (omega arith)) g.start g.end s.requires.j_le_height.1 s.requires.j_le_height.2 in
+    let s = c in
+    let g = s.args in
+    ap (λ (r : Ranked). r.middle) c.rank_node-node.ensures
+    ∙ middle_by_ones (level_of g.bytes.now g.t g.j) g.t.entries (level-of g.bytes.now g.t g.j (omega arith)) g.start g.end s.requires.j_le_height.1 s.requires.j_le_height.2 in
     let offset-of_inside : (c.args.start ≤ c.pick-from.result)
     × (c.pick-from.result ≤ c.pick-to.result)
     × (c.pick-to.result ≤ c.args.end) =
-        let k = c in
-        let s = k in
-        let g = s.args in
-        let bits : List ℕ = level_of g.bytes.now g.t g.j in
-        let l = s.requires.j_le_height.1 in
-        let mid : ℕ = k.rank_node-node.result.middle in
-        let m : mid ≡ left bits g.start g.end = offset-of_middle in
-        rw (c.pick-from.ensures, c.pick-to.ensures)
-        (picked (eqb (g.d / 2 ^ (g.t.height - 1 - g.j) % 2) 1) g.start mid g.end (omega arith) (omega (arith, left_le bits g.start g.end l))) in
+    let k = c in
+    let s = k in
+    let g = s.args in
+    let bits : List ℕ = level_of g.bytes.now g.t g.j in
+    let l = s.requires.j_le_height.1 in
+    let mid : ℕ = k.rank_node-node.result.middle in
+    let m : mid ≡ left bits g.start g.end = offset-of_middle in
+    rw (c.pick-from.ensures, c.pick-to.ensures)
+    (picked (eqb (g.d / 2 ^ (g.t.height - 1 - g.j) % 2) 1) g.start mid g.end (omega arith) (omega (arith, left_le bits g.start g.end l))) in
     let s = c in
     let p = offset-of_inside in
     (omega arith, (s.requires.stored, (omega arith, p.1, omega arith)))
@@ -45,22 +45,22 @@ pub overflow_sub-to : goal.overflow_sub-to
 overflow_sub-to t c =
     let offset-of_middle : c.rank_node-node.result.middle
     ≡ left (level_of c.args.bytes.now c.args.t c.args.j) c.args.start c.args.end =
-        let s = c in
-        let g = s.args in
-        ap (λ (r : Ranked). r.middle) c.rank_node-node.ensures
-        ∙ middle_by_ones (level_of g.bytes.now g.t g.j) g.t.entries (level-of g.bytes.now g.t g.j (omega arith)) g.start g.end s.requires.j_le_height.1 s.requires.j_le_height.2 in
+    let s = c in
+    let g = s.args in
+    ap (λ (r : Ranked). r.middle) c.rank_node-node.ensures
+    ∙ middle_by_ones (level_of g.bytes.now g.t g.j) g.t.entries (level-of g.bytes.now g.t g.j (omega arith)) g.start g.end s.requires.j_le_height.1 s.requires.j_le_height.2 in
     let offset-of_inside : (c.args.start ≤ c.pick-from.result)
     × (c.pick-from.result ≤ c.pick-to.result)
     × (c.pick-to.result ≤ c.args.end) =
-        let k = c in
-        let s = k in
-        let g = s.args in
-        let bits : List ℕ = level_of g.bytes.now g.t g.j in
-        let l = s.requires.j_le_height.1 in
-        let mid : ℕ = k.rank_node-node.result.middle in
-        let m : mid ≡ left bits g.start g.end = offset-of_middle in
-        rw (c.pick-from.ensures, c.pick-to.ensures)
-        (picked (eqb (g.d / 2 ^ (g.t.height - 1 - g.j) % 2) 1) g.start mid g.end (omega arith) (omega (arith, left_le bits g.start g.end l))) in
+    let k = c in
+    let s = k in
+    let g = s.args in
+    let bits : List ℕ = level_of g.bytes.now g.t g.j in
+    let l = s.requires.j_le_height.1 in
+    let mid : ℕ = k.rank_node-node.result.middle in
+    let m : mid ≡ left bits g.start g.end = offset-of_middle in
+    rw (c.pick-from.ensures, c.pick-to.ensures)
+    (picked (eqb (g.d / 2 ^ (g.t.height - 1 - g.j) % 2) 1) g.start mid g.end (omega arith) (omega (arith, left_le bits g.start g.end l))) in
     let p = offset-of_inside in
     omega arith
 
@@ -68,22 +68,22 @@ pub overflow_sub-result : goal.overflow_sub-result
 overflow_sub-result t c =
     let offset-of_middle : c.rank_node-node.result.middle
     ≡ left (level_of c.args.bytes.now c.args.t c.args.j) c.args.start c.args.end =
-        let s = c in
-        let g = s.args in
-        ap (λ (r : Ranked). r.middle) c.rank_node-node.ensures
-        ∙ middle_by_ones (level_of g.bytes.now g.t g.j) g.t.entries (level-of g.bytes.now g.t g.j (omega arith)) g.start g.end s.requires.j_le_height.1 s.requires.j_le_height.2 in
+    let s = c in
+    let g = s.args in
+    ap (λ (r : Ranked). r.middle) c.rank_node-node.ensures
+    ∙ middle_by_ones (level_of g.bytes.now g.t g.j) g.t.entries (level-of g.bytes.now g.t g.j (omega arith)) g.start g.end s.requires.j_le_height.1 s.requires.j_le_height.2 in
     let offset-of_inside : (c.args.start ≤ c.pick-from.result)
     × (c.pick-from.result ≤ c.pick-to.result)
     × (c.pick-to.result ≤ c.args.end) =
-        let k = c in
-        let s = k in
-        let g = s.args in
-        let bits : List ℕ = level_of g.bytes.now g.t g.j in
-        let l = s.requires.j_le_height.1 in
-        let mid : ℕ = k.rank_node-node.result.middle in
-        let m : mid ≡ left bits g.start g.end = offset-of_middle in
-        rw (c.pick-from.ensures, c.pick-to.ensures)
-        (picked (eqb (g.d / 2 ^ (g.t.height - 1 - g.j) % 2) 1) g.start mid g.end (omega arith) (omega (arith, left_le bits g.start g.end l))) in
+    let k = c in
+    let s = k in
+    let g = s.args in
+    let bits : List ℕ = level_of g.bytes.now g.t g.j in
+    let l = s.requires.j_le_height.1 in
+    let mid : ℕ = k.rank_node-node.result.middle in
+    let m : mid ≡ left bits g.start g.end = offset-of_middle in
+    rw (c.pick-from.ensures, c.pick-to.ensures)
+    (picked (eqb (g.d / 2 ^ (g.t.height - 1 - g.j) % 2) 1) g.start mid g.end (omega arith) (omega (arith, left_le bits g.start g.end l))) in
     let p = offset-of_inside in
     omega arith
 
@@ -91,22 +91,22 @@ pub returns-then-below-to : goal.returns-then-below-to
 returns-then-below-to t c =
     let offset-of_middle : c.rank_node-node.result.middle
     ≡ left (level_of c.args.bytes.now c.args.t c.args.j) c.args.start c.args.end =
-        let s = c in
-        let g = s.args in
-        ap (λ (r : Ranked). r.middle) c.rank_node-node.ensures
-        ∙ middle_by_ones (level_of g.bytes.now g.t g.j) g.t.entries (level-of g.bytes.now g.t g.j (omega arith)) g.start g.end s.requires.j_le_height.1 s.requires.j_le_height.2 in
+    let s = c in
+    let g = s.args in
+    ap (λ (r : Ranked). r.middle) c.rank_node-node.ensures
+    ∙ middle_by_ones (level_of g.bytes.now g.t g.j) g.t.entries (level-of g.bytes.now g.t g.j (omega arith)) g.start g.end s.requires.j_le_height.1 s.requires.j_le_height.2 in
     let offset-of_inside : (c.args.start ≤ c.pick-from.result)
     × (c.pick-from.result ≤ c.pick-to.result)
     × (c.pick-to.result ≤ c.args.end) =
-        let k = c in
-        let s = k in
-        let g = s.args in
-        let bits : List ℕ = level_of g.bytes.now g.t g.j in
-        let l = s.requires.j_le_height.1 in
-        let mid : ℕ = k.rank_node-node.result.middle in
-        let m : mid ≡ left bits g.start g.end = offset-of_middle in
-        rw (c.pick-from.ensures, c.pick-to.ensures)
-        (picked (eqb (g.d / 2 ^ (g.t.height - 1 - g.j) % 2) 1) g.start mid g.end (omega arith) (omega (arith, left_le bits g.start g.end l))) in
+    let k = c in
+    let s = k in
+    let g = s.args in
+    let bits : List ℕ = level_of g.bytes.now g.t g.j in
+    let l = s.requires.j_le_height.1 in
+    let mid : ℕ = k.rank_node-node.result.middle in
+    let m : mid ≡ left bits g.start g.end = offset-of_middle in
+    rw (c.pick-from.ensures, c.pick-to.ensures)
+    (picked (eqb (g.d / 2 ^ (g.t.height - 1 - g.j) % 2) 1) g.start mid g.end (omega arith) (omega (arith, left_le bits g.start g.end l))) in
     let o = c in
     let k = o in
     let s = k in
@@ -122,22 +122,22 @@ pub up-requires : goal.up-requires
 up-requires t c =
     let offset-of_middle : c.rank_node-node.result.middle
     ≡ left (level_of c.args.bytes.now c.args.t c.args.j) c.args.start c.args.end =
-        let s = c in
-        let g = s.args in
-        ap (λ (r : Ranked). r.middle) c.rank_node-node.ensures
-        ∙ middle_by_ones (level_of g.bytes.now g.t g.j) g.t.entries (level-of g.bytes.now g.t g.j (omega arith)) g.start g.end s.requires.j_le_height.1 s.requires.j_le_height.2 in
+    let s = c in
+    let g = s.args in
+    ap (λ (r : Ranked). r.middle) c.rank_node-node.ensures
+    ∙ middle_by_ones (level_of g.bytes.now g.t g.j) g.t.entries (level-of g.bytes.now g.t g.j (omega arith)) g.start g.end s.requires.j_le_height.1 s.requires.j_le_height.2 in
     let offset-of_inside : (c.args.start ≤ c.pick-from.result)
     × (c.pick-from.result ≤ c.pick-to.result)
     × (c.pick-to.result ≤ c.args.end) =
-        let k = c in
-        let s = k in
-        let g = s.args in
-        let bits : List ℕ = level_of g.bytes.now g.t g.j in
-        let l = s.requires.j_le_height.1 in
-        let mid : ℕ = k.rank_node-node.result.middle in
-        let m : mid ≡ left bits g.start g.end = offset-of_middle in
-        rw (c.pick-from.ensures, c.pick-to.ensures)
-        (picked (eqb (g.d / 2 ^ (g.t.height - 1 - g.j) % 2) 1) g.start mid g.end (omega arith) (omega (arith, left_le bits g.start g.end l))) in
+    let k = c in
+    let s = k in
+    let g = s.args in
+    let bits : List ℕ = level_of g.bytes.now g.t g.j in
+    let l = s.requires.j_le_height.1 in
+    let mid : ℕ = k.rank_node-node.result.middle in
+    let m : mid ≡ left bits g.start g.end = offset-of_middle in
+    rw (c.pick-from.ensures, c.pick-to.ensures)
+    (picked (eqb (g.d / 2 ^ (g.t.height - 1 - g.j) % 2) 1) g.start mid g.end (omega arith) (omega (arith, left_le bits g.start g.end l))) in
     let o = c in
     let k = o in
     let s = k in
@@ -159,22 +159,22 @@ pub returns : goal.returns
 returns t c =
     let offset-of_middle : c.rank_node-node.result.middle
     ≡ left (level_of c.args.bytes.now c.args.t c.args.j) c.args.start c.args.end =
-        let s = c in
-        let g = s.args in
-        ap (λ (r : Ranked). r.middle) c.rank_node-node.ensures
-        ∙ middle_by_ones (level_of g.bytes.now g.t g.j) g.t.entries (level-of g.bytes.now g.t g.j (omega arith)) g.start g.end s.requires.j_le_height.1 s.requires.j_le_height.2 in
+    let s = c in
+    let g = s.args in
+    ap (λ (r : Ranked). r.middle) c.rank_node-node.ensures
+    ∙ middle_by_ones (level_of g.bytes.now g.t g.j) g.t.entries (level-of g.bytes.now g.t g.j (omega arith)) g.start g.end s.requires.j_le_height.1 s.requires.j_le_height.2 in
     let offset-of_inside : (c.args.start ≤ c.pick-from.result)
     × (c.pick-from.result ≤ c.pick-to.result)
     × (c.pick-to.result ≤ c.args.end) =
-        let k = c in
-        let s = k in
-        let g = s.args in
-        let bits : List ℕ = level_of g.bytes.now g.t g.j in
-        let l = s.requires.j_le_height.1 in
-        let mid : ℕ = k.rank_node-node.result.middle in
-        let m : mid ≡ left bits g.start g.end = offset-of_middle in
-        rw (c.pick-from.ensures, c.pick-to.ensures)
-        (picked (eqb (g.d / 2 ^ (g.t.height - 1 - g.j) % 2) 1) g.start mid g.end (omega arith) (omega (arith, left_le bits g.start g.end l))) in
+    let k = c in
+    let s = k in
+    let g = s.args in
+    let bits : List ℕ = level_of g.bytes.now g.t g.j in
+    let l = s.requires.j_le_height.1 in
+    let mid : ℕ = k.rank_node-node.result.middle in
+    let m : mid ≡ left bits g.start g.end = offset-of_middle in
+    rw (c.pick-from.ensures, c.pick-to.ensures)
+    (picked (eqb (g.d / 2 ^ (g.t.height - 1 - g.j) % 2) 1) g.start mid g.end (omega arith) (omega (arith, left_le bits g.start g.end l))) in
     let o = c in
     let k = o in
     let s = k in

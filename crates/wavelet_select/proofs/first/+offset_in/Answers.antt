@@ -26,9 +26,9 @@ returns-then-hi-lo t c =
 pub rank_node-node-requires : goal.rank_node-node-requires
 rank_node-node-requires t c =
     let offset_in_inner : c.args.j < c.args.t.height =
-        let s = c in
-        let g = s.args in
-        no_leaf g.bytes.now g.t g.d g.j s.requires.j_le_height.0 (span g.start g.lo g.hi g.end) s.requires.j_le_height.1 g.count s.requires.j_le_height.2 c.if-hi-lo.false in
+    let s = c in
+    let g = s.args in
+    no_leaf g.bytes.now g.t g.d g.j s.requires.j_le_height.0 (span g.start g.lo g.hi g.end) s.requires.j_le_height.1 g.count s.requires.j_le_height.2 c.if-hi-lo.false in
     let s = c in
     let o = s.requires.j_le_height.1 in record {
       stored = s.requires.stored;
@@ -38,9 +38,9 @@ rank_node-node-requires t c =
 pub halve_range-two-requires : goal.halve_range-two-requires
 halve_range-two-requires t c =
     let offset_in_inner : c.args.j < c.args.t.height =
-        let s = c in
-        let g = s.args in
-        no_leaf g.bytes.now g.t g.d g.j s.requires.j_le_height.0 (span g.start g.lo g.hi g.end) s.requires.j_le_height.1 g.count s.requires.j_le_height.2 c.if-hi-lo.false in
+    let s = c in
+    let g = s.args in
+    no_leaf g.bytes.now g.t g.d g.j s.requires.j_le_height.0 (span g.start g.lo g.hi g.end) s.requires.j_le_height.1 g.count s.requires.j_le_height.2 c.if-hi-lo.false in
     let s = c in
     let g = s.args in
     let bits : List ℕ = level_of g.bytes.now g.t g.j in
@@ -53,9 +53,9 @@ halve_range-two-requires t c =
 pub overflow_sub-bit : goal.overflow_sub-bit
 overflow_sub-bit t c =
     let offset_in_inner : c.args.j < c.args.t.height =
-        let s = c in
-        let g = s.args in
-        no_leaf g.bytes.now g.t g.d g.j s.requires.j_le_height.0 (span g.start g.lo g.hi g.end) s.requires.j_le_height.1 g.count s.requires.j_le_height.2 c.if-hi-lo.false in
+    let s = c in
+    let g = s.args in
+    no_leaf g.bytes.now g.t g.d g.j s.requires.j_le_height.0 (span g.start g.lo g.hi g.end) s.requires.j_le_height.1 g.count s.requires.j_le_height.2 c.if-hi-lo.false in
     let l = offset_in_inner in
     let s = c in
     omega (arith, l, s.requires.stored.low)
@@ -63,9 +63,9 @@ overflow_sub-bit t c =
 pub overflow_sub-bit-2 : goal.overflow_sub-bit-2
 overflow_sub-bit-2 t c =
     let offset_in_inner : c.args.j < c.args.t.height =
-        let s = c in
-        let g = s.args in
-        no_leaf g.bytes.now g.t g.d g.j s.requires.j_le_height.0 (span g.start g.lo g.hi g.end) s.requires.j_le_height.1 g.count s.requires.j_le_height.2 c.if-hi-lo.false in
+    let s = c in
+    let g = s.args in
+    no_leaf g.bytes.now g.t g.d g.j s.requires.j_le_height.0 (span g.start g.lo g.hi g.end) s.requires.j_le_height.1 g.count s.requires.j_le_height.2 c.if-hi-lo.false in
     let l = offset_in_inner in
     let s = c in
     omega (arith, l, s.requires.stored.low)
@@ -73,9 +73,9 @@ overflow_sub-bit-2 t c =
 pub overflow_shr-bit : goal.overflow_shr-bit
 overflow_shr-bit t c =
     let offset_in_inner : c.args.j < c.args.t.height =
-        let s = c in
-        let g = s.args in
-        no_leaf g.bytes.now g.t g.d g.j s.requires.j_le_height.0 (span g.start g.lo g.hi g.end) s.requires.j_le_height.1 g.count s.requires.j_le_height.2 c.if-hi-lo.false in
+    let s = c in
+    let g = s.args in
+    no_leaf g.bytes.now g.t g.d g.j s.requires.j_le_height.0 (span g.start g.lo g.hi g.end) s.requires.j_le_height.1 g.count s.requires.j_le_height.2 c.if-hi-lo.false in
     let l = offset_in_inner in
     let s = c in
     omega (arith, l, s.requires.stored.low)
@@ -83,9 +83,9 @@ overflow_shr-bit t c =
 pub overflow_add-j : goal.overflow_add-j
 overflow_add-j t c =
     let offset_in_inner : c.args.j < c.args.t.height =
-        let s = c in
-        let g = s.args in
-        no_leaf g.bytes.now g.t g.d g.j s.requires.j_le_height.0 (span g.start g.lo g.hi g.end) s.requires.j_le_height.1 g.count s.requires.j_le_height.2 c.if-hi-lo.false in
+    let s = c in
+    let g = s.args in
+    no_leaf g.bytes.now g.t g.d g.j s.requires.j_le_height.0 (span g.start g.lo g.hi g.end) s.requires.j_le_height.1 g.count s.requires.j_le_height.2 c.if-hi-lo.false in
     let l = offset_in_inner in
     let s = c in
     omega (arith, l, s.requires.stored.low)
@@ -93,19 +93,19 @@ overflow_add-j t c =
 pub offset_in-below-requires : goal.offset_in-below-requires
 offset_in-below-requires t c =
     let offset_in_inner : c.args.j < c.args.t.height =
-        let s = c in
-        let g = s.args in
-        no_leaf g.bytes.now g.t g.d g.j s.requires.j_le_height.0 (span g.start g.lo g.hi g.end) s.requires.j_le_height.1 g.count s.requires.j_le_height.2 c.if-hi-lo.false in
+    let s = c in
+    let g = s.args in
+    no_leaf g.bytes.now g.t g.d g.j s.requires.j_le_height.0 (span g.start g.lo g.hi g.end) s.requires.j_le_height.1 g.count s.requires.j_le_height.2 c.if-hi-lo.false in
     let offset_in_halved : let g = c.args in
     c.halve_range-two.result ≡ halves_of (level_of g.bytes.now g.t g.j) (span g.start g.lo g.hi g.end) =
-        let g = c.args in
-        let bits : List ℕ = level_of g.bytes.now g.t g.j in
-        c.halve_range-two.ensures.0 ∙ ap (halves_of bits) (ranked_span bits g.start g.end g.lo g.hi c.rank_node-node.result c.rank_node-node.ensures) in
+    let g = c.args in
+    let bits : List ℕ = level_of g.bytes.now g.t g.j in
+    c.halve_range-two.ensures.0 ∙ ap (halves_of bits) (ranked_span bits g.start g.end g.lo g.hi c.rank_node-node.result c.rank_node-node.ensures) in
     let offset_in_half : let g = c.args in
     c.half-s.result
     ≡ half_of (halves_of (level_of g.bytes.now g.t g.j) (span g.start g.lo g.hi g.end)) (g.d / 2 ^ (g.t.height - 1 - g.j) % 2) =
-        let g = c.args in
-        c.half-s.ensures ∙ ap (λ (two : Halves). half_of two (g.d / 2 ^ (g.t.height - 1 - g.j) % 2)) (offset_in_halved) in
+    let g = c.args in
+    c.half-s.ensures ∙ ap (λ (two : Halves). half_of two (g.d / 2 ^ (g.t.height - 1 - g.j) % 2)) (offset_in_halved) in
     let s = c in
     let g = s.args in
     let x = c.half-s.result in
@@ -123,19 +123,19 @@ overflow_sub-hi-2 t c =
 pub returns-then-s-hi : goal.returns-then-s-hi
 returns-then-s-hi t c =
     let offset_in_inner : c.args.j < c.args.t.height =
-        let s = c in
-        let g = s.args in
-        no_leaf g.bytes.now g.t g.d g.j s.requires.j_le_height.0 (span g.start g.lo g.hi g.end) s.requires.j_le_height.1 g.count s.requires.j_le_height.2 c.if-hi-lo.false in
+    let s = c in
+    let g = s.args in
+    no_leaf g.bytes.now g.t g.d g.j s.requires.j_le_height.0 (span g.start g.lo g.hi g.end) s.requires.j_le_height.1 g.count s.requires.j_le_height.2 c.if-hi-lo.false in
     let offset_in_halved : let g = c.args in
     c.halve_range-two.result ≡ halves_of (level_of g.bytes.now g.t g.j) (span g.start g.lo g.hi g.end) =
-        let g = c.args in
-        let bits : List ℕ = level_of g.bytes.now g.t g.j in
-        c.halve_range-two.ensures.0 ∙ ap (halves_of bits) (ranked_span bits g.start g.end g.lo g.hi c.rank_node-node.result c.rank_node-node.ensures) in
+    let g = c.args in
+    let bits : List ℕ = level_of g.bytes.now g.t g.j in
+    c.halve_range-two.ensures.0 ∙ ap (halves_of bits) (ranked_span bits g.start g.end g.lo g.hi c.rank_node-node.result c.rank_node-node.ensures) in
     let offset_in_half : let g = c.args in
     c.half-s.result
     ≡ half_of (halves_of (level_of g.bytes.now g.t g.j) (span g.start g.lo g.hi g.end)) (g.d / 2 ^ (g.t.height - 1 - g.j) % 2) =
-        let g = c.args in
-        c.half-s.ensures ∙ ap (λ (two : Halves). half_of two (g.d / 2 ^ (g.t.height - 1 - g.j) % 2)) (offset_in_halved) in
+    let g = c.args in
+    c.half-s.ensures ∙ ap (λ (two : Halves). half_of two (g.d / 2 ^ (g.t.height - 1 - g.j) % 2)) (offset_in_halved) in
     let o = c in
     let s = o in
     let g = s.args in
@@ -145,47 +145,47 @@ returns-then-s-hi t c =
 pub overflow_sub-before : goal.overflow_sub-before
 overflow_sub-before t c =
     let offset_in_inner : c.args.j < c.args.t.height =
-        let s = c in
-        let g = s.args in
-        no_leaf g.bytes.now g.t g.d g.j s.requires.j_le_height.0 (span g.start g.lo g.hi g.end) s.requires.j_le_height.1 g.count s.requires.j_le_height.2 c.if-hi-lo.false in
+    let s = c in
+    let g = s.args in
+    no_leaf g.bytes.now g.t g.d g.j s.requires.j_le_height.0 (span g.start g.lo g.hi g.end) s.requires.j_le_height.1 g.count s.requires.j_le_height.2 c.if-hi-lo.false in
     let offset_in_halved : let g = c.args in
     c.halve_range-two.result ≡ halves_of (level_of g.bytes.now g.t g.j) (span g.start g.lo g.hi g.end) =
-        let g = c.args in
-        let bits : List ℕ = level_of g.bytes.now g.t g.j in
-        c.halve_range-two.ensures.0 ∙ ap (halves_of bits) (ranked_span bits g.start g.end g.lo g.hi c.rank_node-node.result c.rank_node-node.ensures) in
+    let g = c.args in
+    let bits : List ℕ = level_of g.bytes.now g.t g.j in
+    c.halve_range-two.ensures.0 ∙ ap (halves_of bits) (ranked_span bits g.start g.end g.lo g.hi c.rank_node-node.result c.rank_node-node.ensures) in
     let offset_in_before : let g = c.args in
     (c.rank_node-node.result.middle ≤ c.halve_range-two.result.one.lo)
     × (c.rank_node-node.result.before + (c.halve_range-two.result.one.lo - c.rank_node-node.result.middle) ≡ rank 1 (level_of g.bytes.now g.t g.j) g.lo) =
-        let s = c in
-        let g = s.args in
-        let node = c.rank_node-node in
-        let two = offset_in_halved in (
-          middle_before g.bytes.now g.t g.d g.j (offset_in_inner) (span g.start g.lo g.hi g.end) s.requires.j_le_height.1 node.result c.halve_range-two.result node.ensures two,
-          before-range g.bytes.now g.t g.d g.j (offset_in_inner) (span g.start g.lo g.hi g.end) s.requires.j_le_height.1 node.result c.halve_range-two.result node.ensures two,
-        ) in
+    let s = c in
+    let g = s.args in
+    let node = c.rank_node-node in
+    let two = offset_in_halved in (
+      middle_before g.bytes.now g.t g.d g.j (offset_in_inner) (span g.start g.lo g.hi g.end) s.requires.j_le_height.1 node.result c.halve_range-two.result node.ensures two,
+      before-range g.bytes.now g.t g.d g.j (offset_in_inner) (span g.start g.lo g.hi g.end) s.requires.j_le_height.1 node.result c.halve_range-two.result node.ensures two,
+    ) in
     (offset_in_before).0
 
 pub overflow_add-before : goal.overflow_add-before
 overflow_add-before t c =
     let offset_in_inner : c.args.j < c.args.t.height =
-        let s = c in
-        let g = s.args in
-        no_leaf g.bytes.now g.t g.d g.j s.requires.j_le_height.0 (span g.start g.lo g.hi g.end) s.requires.j_le_height.1 g.count s.requires.j_le_height.2 c.if-hi-lo.false in
+    let s = c in
+    let g = s.args in
+    no_leaf g.bytes.now g.t g.d g.j s.requires.j_le_height.0 (span g.start g.lo g.hi g.end) s.requires.j_le_height.1 g.count s.requires.j_le_height.2 c.if-hi-lo.false in
     let offset_in_halved : let g = c.args in
     c.halve_range-two.result ≡ halves_of (level_of g.bytes.now g.t g.j) (span g.start g.lo g.hi g.end) =
-        let g = c.args in
-        let bits : List ℕ = level_of g.bytes.now g.t g.j in
-        c.halve_range-two.ensures.0 ∙ ap (halves_of bits) (ranked_span bits g.start g.end g.lo g.hi c.rank_node-node.result c.rank_node-node.ensures) in
+    let g = c.args in
+    let bits : List ℕ = level_of g.bytes.now g.t g.j in
+    c.halve_range-two.ensures.0 ∙ ap (halves_of bits) (ranked_span bits g.start g.end g.lo g.hi c.rank_node-node.result c.rank_node-node.ensures) in
     let offset_in_before : let g = c.args in
     (c.rank_node-node.result.middle ≤ c.halve_range-two.result.one.lo)
     × (c.rank_node-node.result.before + (c.halve_range-two.result.one.lo - c.rank_node-node.result.middle) ≡ rank 1 (level_of g.bytes.now g.t g.j) g.lo) =
-        let s = c in
-        let g = s.args in
-        let node = c.rank_node-node in
-        let two = offset_in_halved in (
-          middle_before g.bytes.now g.t g.d g.j (offset_in_inner) (span g.start g.lo g.hi g.end) s.requires.j_le_height.1 node.result c.halve_range-two.result node.ensures two,
-          before-range g.bytes.now g.t g.d g.j (offset_in_inner) (span g.start g.lo g.hi g.end) s.requires.j_le_height.1 node.result c.halve_range-two.result node.ensures two,
-        ) in
+    let s = c in
+    let g = s.args in
+    let node = c.rank_node-node in
+    let two = offset_in_halved in (
+      middle_before g.bytes.now g.t g.d g.j (offset_in_inner) (span g.start g.lo g.hi g.end) s.requires.j_le_height.1 node.result c.halve_range-two.result node.ensures two,
+      before-range g.bytes.now g.t g.d g.j (offset_in_inner) (span g.start g.lo g.hi g.end) s.requires.j_le_height.1 node.result c.halve_range-two.result node.ensures two,
+    ) in
     let s = c in
     let g = s.args in
     let e = (offset_in_before).1 in
@@ -196,29 +196,29 @@ overflow_add-before t c =
 pub up-requires : goal.up-requires
 up-requires t c =
     let offset_in_inner : c.args.j < c.args.t.height =
-        let s = c in
-        let g = s.args in
-        no_leaf g.bytes.now g.t g.d g.j s.requires.j_le_height.0 (span g.start g.lo g.hi g.end) s.requires.j_le_height.1 g.count s.requires.j_le_height.2 c.if-hi-lo.false in
+    let s = c in
+    let g = s.args in
+    no_leaf g.bytes.now g.t g.d g.j s.requires.j_le_height.0 (span g.start g.lo g.hi g.end) s.requires.j_le_height.1 g.count s.requires.j_le_height.2 c.if-hi-lo.false in
     let offset_in_halved : let g = c.args in
     c.halve_range-two.result ≡ halves_of (level_of g.bytes.now g.t g.j) (span g.start g.lo g.hi g.end) =
-        let g = c.args in
-        let bits : List ℕ = level_of g.bytes.now g.t g.j in
-        c.halve_range-two.ensures.0 ∙ ap (halves_of bits) (ranked_span bits g.start g.end g.lo g.hi c.rank_node-node.result c.rank_node-node.ensures) in
+    let g = c.args in
+    let bits : List ℕ = level_of g.bytes.now g.t g.j in
+    c.halve_range-two.ensures.0 ∙ ap (halves_of bits) (ranked_span bits g.start g.end g.lo g.hi c.rank_node-node.result c.rank_node-node.ensures) in
     let offset_in_half : let g = c.args in
     c.half-s.result
     ≡ half_of (halves_of (level_of g.bytes.now g.t g.j) (span g.start g.lo g.hi g.end)) (g.d / 2 ^ (g.t.height - 1 - g.j) % 2) =
-        let g = c.args in
-        c.half-s.ensures ∙ ap (λ (two : Halves). half_of two (g.d / 2 ^ (g.t.height - 1 - g.j) % 2)) (offset_in_halved) in
+    let g = c.args in
+    c.half-s.ensures ∙ ap (λ (two : Halves). half_of two (g.d / 2 ^ (g.t.height - 1 - g.j) % 2)) (offset_in_halved) in
     let offset_in_before : let g = c.args in
     (c.rank_node-node.result.middle ≤ c.halve_range-two.result.one.lo)
     × (c.rank_node-node.result.before + (c.halve_range-two.result.one.lo - c.rank_node-node.result.middle) ≡ rank 1 (level_of g.bytes.now g.t g.j) g.lo) =
-        let s = c in
-        let g = s.args in
-        let node = c.rank_node-node in
-        let two = offset_in_halved in (
-          middle_before g.bytes.now g.t g.d g.j (offset_in_inner) (span g.start g.lo g.hi g.end) s.requires.j_le_height.1 node.result c.halve_range-two.result node.ensures two,
-          before-range g.bytes.now g.t g.d g.j (offset_in_inner) (span g.start g.lo g.hi g.end) s.requires.j_le_height.1 node.result c.halve_range-two.result node.ensures two,
-        ) in
+    let s = c in
+    let g = s.args in
+    let node = c.rank_node-node in
+    let two = offset_in_halved in (
+      middle_before g.bytes.now g.t g.d g.j (offset_in_inner) (span g.start g.lo g.hi g.end) s.requires.j_le_height.1 node.result c.halve_range-two.result node.ensures two,
+      before-range g.bytes.now g.t g.d g.j (offset_in_inner) (span g.start g.lo g.hi g.end) s.requires.j_le_height.1 node.result c.halve_range-two.result node.ensures two,
+    ) in
     let s = c in
     let g = s.args in
     let e = (offset_in_before).1 in
@@ -237,19 +237,19 @@ up-requires t c =
 pub returns : goal.returns
 returns t c =
     let offset_in_inner : c.args.j < c.args.t.height =
-        let s = c in
-        let g = s.args in
-        no_leaf g.bytes.now g.t g.d g.j s.requires.j_le_height.0 (span g.start g.lo g.hi g.end) s.requires.j_le_height.1 g.count s.requires.j_le_height.2 c.if-hi-lo.false in
+    let s = c in
+    let g = s.args in
+    no_leaf g.bytes.now g.t g.d g.j s.requires.j_le_height.0 (span g.start g.lo g.hi g.end) s.requires.j_le_height.1 g.count s.requires.j_le_height.2 c.if-hi-lo.false in
     let offset_in_halved : let g = c.args in
     c.halve_range-two.result ≡ halves_of (level_of g.bytes.now g.t g.j) (span g.start g.lo g.hi g.end) =
-        let g = c.args in
-        let bits : List ℕ = level_of g.bytes.now g.t g.j in
-        c.halve_range-two.ensures.0 ∙ ap (halves_of bits) (ranked_span bits g.start g.end g.lo g.hi c.rank_node-node.result c.rank_node-node.ensures) in
+    let g = c.args in
+    let bits : List ℕ = level_of g.bytes.now g.t g.j in
+    c.halve_range-two.ensures.0 ∙ ap (halves_of bits) (ranked_span bits g.start g.end g.lo g.hi c.rank_node-node.result c.rank_node-node.ensures) in
     let offset_in_half : let g = c.args in
     c.half-s.result
     ≡ half_of (halves_of (level_of g.bytes.now g.t g.j) (span g.start g.lo g.hi g.end)) (g.d / 2 ^ (g.t.height - 1 - g.j) % 2) =
-        let g = c.args in
-        c.half-s.ensures ∙ ap (λ (two : Halves). half_of two (g.d / 2 ^ (g.t.height - 1 - g.j) % 2)) (offset_in_halved) in
+    let g = c.args in
+    c.half-s.ensures ∙ ap (λ (two : Halves). half_of two (g.d / 2 ^ (g.t.height - 1 - g.j) % 2)) (offset_in_halved) in
     let o = c in
     let s = o in
     let g = s.args in

@@ -45,7 +45,7 @@ returns-then-term_missing c =
 pub returns-then-answers-least : goal.returns-then-answers-least
 returns-then-answers-least c =
     let known : any (leb c.args.layout.terms) (terms_of c.args.q) ≡ false =
-        sym c.term_missing.ensures ∙ c.if-term_missing.false in
+    sym c.term_missing.ensures ∙ c.if-term_missing.false in
     let s = c in
     let g = s.args in
     let some = c.if-q-eq0.false in
@@ -62,9 +62,9 @@ overflow_mul-layout c =
 pub returns-then-work-layout : goal.returns-then-work-layout
 returns-then-work-layout c =
     let known : any (leb c.args.layout.terms) (terms_of c.args.q) ≡ false =
-        sym c.term_missing.ensures ∙ c.if-term_missing.false in
+    sym c.term_missing.ensures ∙ c.if-term_missing.false in
     let room : 2 * min c.args.k c.args.layout.documents ≤ length c.args.answers.now =
-        subst (λ (n : ℕ). 2 * n ≤ length c.args.answers.now) c.least.ensures c.if-answers-least.false in
+    subst (λ (n : ℕ). 2 * n ≤ length c.args.answers.now) c.least.ensures c.if-answers-least.false in
     let s = c in
     let g = s.args in
     let some = c.if-q-eq0.false in
@@ -77,11 +77,11 @@ returns-then-work-layout c =
 pub rarest_first_in-terms-requires : goal.rarest_first_in-terms-requires
 rarest_first_in-terms-requires c =
     let known : any (leb c.args.layout.terms) (terms_of c.args.q) ≡ false =
-        sym c.term_missing.ensures ∙ c.if-term_missing.false in
+    sym c.term_missing.ensures ∙ c.if-term_missing.false in
     let asked : Asked c.args.layout.terms c.args.q =
-        let g = c.args in
-        let some = c.if-q-eq0.false in
-        record { some = omega arith; few = c.if-q-gt8.false; known = within_any g.layout.terms (terms_of g.q) (known) } in record {
+    let g = c.args in
+    let some = c.if-q-eq0.false in
+    record { some = omega arith; few = c.if-q-gt8.false; known = within_any g.layout.terms (terms_of g.q) (known) } in record {
       opened = c.requires;
       asked = asked;
     }
@@ -89,7 +89,7 @@ rarest_first_in-terms-requires c =
 pub weighted_in-requires : goal.weighted_in-requires
 weighted_in-requires c =
     let room : 2 * min c.args.k c.args.layout.documents ≤ length c.args.answers.now =
-        subst (λ (n : ℕ). 2 * n ≤ length c.args.answers.now) c.least.ensures c.if-answers-least.false in
+    subst (λ (n : ℕ). 2 * n ≤ length c.args.answers.now) c.least.ensures c.if-answers-least.false in
     let e = c in
     let d = c.rarest_first_in-terms in
     let given = terms_of c.args.q in
@@ -106,9 +106,9 @@ weighted_in-requires c =
 pub returns : goal.returns
 returns c =
     let known : any (leb c.args.layout.terms) (terms_of c.args.q) ≡ false =
-        sym c.term_missing.ensures ∙ c.if-term_missing.false in
+    sym c.term_missing.ensures ∙ c.if-term_missing.false in
     let room : 2 * min c.args.k c.args.layout.documents ≤ length c.args.answers.now =
-        subst (λ (n : ℕ). 2 * n ≤ length c.args.answers.now) c.least.ensures c.if-answers-least.false in
+    subst (λ (n : ℕ). 2 * n ≤ length c.args.answers.now) c.least.ensures c.if-answers-least.false in
     let e = c in
     let d = c.rarest_first_in-terms in
     let s = c in

@@ -20,10 +20,10 @@ use Rattle.weighted.proofs.run.weighted_in.Goals as goal
 pub begin-requires : goal.begin-requires
 begin-requires c =
     let eight : length c.args.q.numbers ≡ 8 =
-        search rules in
+    search rules in
     let question : (weights : List ℕ) → Weighs c.args.archive.now c.args.q weights
     → Question c.args.archive.now c.args.l c.args.q weights =
-        λ weights w. record { opened = c.requires.opened; asked = c.requires.asked.0; eight = eight; weighs = w } in
+    λ weights w. record { opened = c.requires.opened; asked = c.requires.asked.0; eight = eight; weighs = w } in
     let s = c in
     let o = question c.weigh-weights.result c.weigh-weights.ensures in
     let ok = sound s.args.archive.now s.args.l o.opened s.args.q o.asked o.eight in
@@ -38,10 +38,10 @@ begin-requires c =
 pub loop-q-init : goal.loop-q-init
 loop-q-init c =
     let eight : length c.args.q.numbers ≡ 8 =
-        search rules in
+    search rules in
     let question : (weights : List ℕ) → Weighs c.args.archive.now c.args.q weights
     → Question c.args.archive.now c.args.l c.args.q weights =
-        λ weights w. record { opened = c.requires.opened; asked = c.requires.asked.0; eight = eight; weighs = w } in
+    λ weights w. record { opened = c.requires.opened; asked = c.requires.asked.0; eight = eight; weighs = w } in
     let s = c in
     let a = s.args in
     let G = ground_of a.archive.now a.l a.q in
@@ -59,10 +59,10 @@ slice_bounds-advance-end c = sym c.loop-q.invariant.1.room
 pub advance-next-requires : goal.advance-next-requires
 advance-next-requires c =
     let eight : length c.args.q.numbers ≡ 8 =
-        search rules in
+    search rules in
     let question : (weights : List ℕ) → Weighs c.args.archive.now c.args.q weights
     → Question c.args.archive.now c.args.l c.args.q weights =
-        λ weights w. record { opened = c.requires.opened; asked = c.requires.asked.0; eight = eight; weighs = w } in
+    λ weights w. record { opened = c.requires.opened; asked = c.requires.asked.0; eight = eight; weighs = w } in
     let s = c in
     let a = s.args in
     let G = ground_of a.archive.now a.l a.q in
@@ -80,10 +80,10 @@ advance-next-requires c =
 pub loop-q-smaller : goal.loop-q-smaller
 loop-q-smaller c =
     let eight : length c.args.q.numbers ≡ 8 =
-        search rules in
+    search rules in
     let question : (weights : List ℕ) → Weighs c.args.archive.now c.args.q weights
     → Question c.args.archive.now c.args.l c.args.q weights =
-        λ weights w. record { opened = c.requires.opened; asked = c.requires.asked.0; eight = eight; weighs = w } in
+    λ weights w. record { opened = c.requires.opened; asked = c.requires.asked.0; eight = eight; weighs = w } in
     let s = c in
     let a = s.args in
     let G = ground_of a.archive.now a.l a.q in
@@ -98,10 +98,10 @@ loop-q-smaller c =
 pub loop-q-preserved : goal.loop-q-preserved
 loop-q-preserved c =
     let eight : length c.args.q.numbers ≡ 8 =
-        search rules in
+    search rules in
     let question : (weights : List ℕ) → Weighs c.args.archive.now c.args.q weights
     → Question c.args.archive.now c.args.l c.args.q weights =
-        λ weights w. record { opened = c.requires.opened; asked = c.requires.asked.0; eight = eight; weighs = w } in
+    λ weights w. record { opened = c.requires.opened; asked = c.requires.asked.0; eight = eight; weighs = w } in
     let s = c in
     let a = s.args in
     let G = ground_of a.archive.now a.l a.q in
@@ -124,10 +124,10 @@ clear-requires c = c.loop-q.invariant.0.kept.room
 pub ending-requires : goal.ending-requires
 ending-requires c =
     let eight : length c.args.q.numbers ≡ 8 =
-        search rules in
+    search rules in
     let question : (weights : List ℕ) → Weighs c.args.archive.now c.args.q weights
     → Question c.args.archive.now c.args.l c.args.q weights =
-        λ weights w. record { opened = c.requires.opened; asked = c.requires.asked.0; eight = eight; weighs = w } in
+    λ weights w. record { opened = c.requires.opened; asked = c.requires.asked.0; eight = eight; weighs = w } in
     let s = c in
     let a = s.args in
     let G = ground_of a.archive.now a.l a.q in
@@ -146,10 +146,10 @@ shape_of-work c = c.clear.auto.work ∙ c.loop-q.invariant.0.size ∙ c.begin.au
 pub returns : goal.returns
 returns c =
     let eight : length c.args.q.numbers ≡ 8 =
-        search rules in
+    search rules in
     let question : (weights : List ℕ) → Weighs c.args.archive.now c.args.q weights
     → Question c.args.archive.now c.args.l c.args.q weights =
-        λ weights w. record { opened = c.requires.opened; asked = c.requires.asked.0; eight = eight; weighs = w } in
+    λ weights w. record { opened = c.requires.opened; asked = c.requires.asked.0; eight = eight; weighs = w } in
     let s = c in
     let a = s.args in
     let G = ground_of a.archive.now a.l a.q in

@@ -42,51 +42,51 @@ returns-then-total-entries c =
 pub layout_of-l-requires : goal.layout_of-l-requires
 layout_of-l-requires c =
     let library : Library =
-        let s = c in record { documents = s.args.documents; lengths = s.args.lengths.now; entries = s.args.entries.now } in
+    let s = c in record { documents = s.args.documents; lengths = s.args.lengths.now; entries = s.args.entries.now } in
     let valid_at : Valid (library) =
-        let lib = library in
-        record {
-          limits = limits_of (sizes_of lib) (limits-are lib c.wide.result c.within_limits.result c.wide.ensures.0 c.within_limits.ensures ∙ c.if-not-within_limits.false);
-          within = within_any lib.documents lib.entries (sym c.beyond.ensures ∙ c.if-beyond.false);
-          total = sym c.total.ensures ∙ c.if-total-entries.false;
-        } in
+    let lib = library in
+    record {
+      limits = limits_of (sizes_of lib) (limits-are lib c.wide.result c.within_limits.result c.wide.ensures.0 c.within_limits.ensures ∙ c.if-not-within_limits.false);
+      within = within_any lib.documents lib.entries (sym c.beyond.ensures ∙ c.if-beyond.false);
+      total = sym c.total.ensures ∙ c.if-total-entries.false;
+    } in
     let lim = (valid_at).limits in
     omega (arith, lim.entries, lim.some_document, lim.documents, lim.some_term, lim.terms, c.wide-2.ensures.0)
 
 pub archive_length-size-requires : goal.archive_length-size-requires
 archive_length-size-requires c =
     let library : Library =
-        let s = c in record { documents = s.args.documents; lengths = s.args.lengths.now; entries = s.args.entries.now } in
+    let s = c in record { documents = s.args.documents; lengths = s.args.lengths.now; entries = s.args.entries.now } in
     let valid_at : Valid (library) =
-        let lib = library in
-        record {
-          limits = limits_of (sizes_of lib) (limits-are lib c.wide.result c.within_limits.result c.wide.ensures.0 c.within_limits.ensures ∙ c.if-not-within_limits.false);
-          within = within_any lib.documents lib.entries (sym c.beyond.ensures ∙ c.if-beyond.false);
-          total = sym c.total.ensures ∙ c.if-total-entries.false;
-        } in
+    let lib = library in
+    record {
+      limits = limits_of (sizes_of lib) (limits-are lib c.wide.result c.within_limits.result c.wide.ensures.0 c.within_limits.ensures ∙ c.if-not-within_limits.false);
+      within = within_any lib.documents lib.entries (sym c.beyond.ensures ∙ c.if-beyond.false);
+      total = sym c.total.ensures ∙ c.if-total-entries.false;
+    } in
     let layout_at : c.layout_of-l.result ≡ layout_of (sizes_of (library)) =
-        let lib = library in
-        c.layout_of-l.ensures
-        ∙ ap (λ (d : ℕ). layout_of (record { entries = length lib.entries; documents = d; terms = length lib.lengths })) c.wide-2.ensures.0 in
+    let lib = library in
+    c.layout_of-l.ensures
+    ∙ ap (λ (d : ℕ). layout_of (record { entries = length lib.entries; documents = d; terms = length lib.lengths })) c.wide-2.ensures.0 in
     fitting_of (library) (valid_at) c.layout_of-l.result (layout_at)
 
 pub returns-then-target-size : goal.returns-then-target-size
 returns-then-target-size c =
     let library : Library =
-        let s = c in record { documents = s.args.documents; lengths = s.args.lengths.now; entries = s.args.entries.now } in
+    let s = c in record { documents = s.args.documents; lengths = s.args.lengths.now; entries = s.args.entries.now } in
     let valid_at : Valid (library) =
-        let lib = library in
-        record {
-          limits = limits_of (sizes_of lib) (limits-are lib c.wide.result c.within_limits.result c.wide.ensures.0 c.within_limits.ensures ∙ c.if-not-within_limits.false);
-          within = within_any lib.documents lib.entries (sym c.beyond.ensures ∙ c.if-beyond.false);
-          total = sym c.total.ensures ∙ c.if-total-entries.false;
-        } in
+    let lib = library in
+    record {
+      limits = limits_of (sizes_of lib) (limits-are lib c.wide.result c.within_limits.result c.wide.ensures.0 c.within_limits.ensures ∙ c.if-not-within_limits.false);
+      within = within_any lib.documents lib.entries (sym c.beyond.ensures ∙ c.if-beyond.false);
+      total = sym c.total.ensures ∙ c.if-total-entries.false;
+    } in
     let layout_at : c.layout_of-l.result ≡ layout_of (sizes_of (library)) =
-        let lib = library in
-        c.layout_of-l.ensures
-        ∙ ap (λ (d : ℕ). layout_of (record { entries = length lib.entries; documents = d; terms = length lib.lengths })) c.wide-2.ensures.0 in
+    let lib = library in
+    c.layout_of-l.ensures
+    ∙ ap (λ (d : ℕ). layout_of (record { entries = length lib.entries; documents = d; terms = length lib.lengths })) c.wide-2.ensures.0 in
     let size-at : c.archive_length-size.result ≡ archive_length (sizes_of (library)) =
-        c.archive_length-size.ensures.0 ∙ ap (λ (l : Layout). archive_length (sizes_in l)) (layout_at) in
+    c.archive_length-size.ensures.0 ∙ ap (λ (l : Layout). archive_length (sizes_in l)) (layout_at) in
     let s = c in
     refused_17 (library) s.args.target.now (valid_at)
     (rw (← size-at) c.if-target-size.true)
@@ -94,22 +94,22 @@ returns-then-target-size c =
 pub write_archive-requires : goal.write_archive-requires
 write_archive-requires c =
     let library : Library =
-        let s = c in record { documents = s.args.documents; lengths = s.args.lengths.now; entries = s.args.entries.now } in
+    let s = c in record { documents = s.args.documents; lengths = s.args.lengths.now; entries = s.args.entries.now } in
     let valid_at : Valid (library) =
-        let lib = library in
-        record {
-          limits = limits_of (sizes_of lib) (limits-are lib c.wide.result c.within_limits.result c.wide.ensures.0 c.within_limits.ensures ∙ c.if-not-within_limits.false);
-          within = within_any lib.documents lib.entries (sym c.beyond.ensures ∙ c.if-beyond.false);
-          total = sym c.total.ensures ∙ c.if-total-entries.false;
-        } in
+    let lib = library in
+    record {
+      limits = limits_of (sizes_of lib) (limits-are lib c.wide.result c.within_limits.result c.wide.ensures.0 c.within_limits.ensures ∙ c.if-not-within_limits.false);
+      within = within_any lib.documents lib.entries (sym c.beyond.ensures ∙ c.if-beyond.false);
+      total = sym c.total.ensures ∙ c.if-total-entries.false;
+    } in
     let layout_at : c.layout_of-l.result ≡ layout_of (sizes_of (library)) =
-        let lib = library in
-        c.layout_of-l.ensures
-        ∙ ap (λ (d : ℕ). layout_of (record { entries = length lib.entries; documents = d; terms = length lib.lengths })) c.wide-2.ensures.0 in
+    let lib = library in
+    c.layout_of-l.ensures
+    ∙ ap (λ (d : ℕ). layout_of (record { entries = length lib.entries; documents = d; terms = length lib.lengths })) c.wide-2.ensures.0 in
     let documents-at : c.layout_of-l.result.documents ≡ (library).documents =
-        ap (λ (l : Layout). l.documents) (layout_at) in
+    ap (λ (l : Layout). l.documents) (layout_at) in
     let size-at : c.archive_length-size.result ≡ archive_length (sizes_of (library)) =
-        c.archive_length-size.ensures.0 ∙ ap (λ (l : Layout). archive_length (sizes_in l)) (layout_at) in
+    c.archive_length-size.ensures.0 ∙ ap (λ (l : Layout). archive_length (sizes_in l)) (layout_at) in
     let s = c in
     let lib = library in
     subst (λ (d : ℕ). Writable (record { documents = d; lengths = lib.lengths; entries = lib.entries }) c.layout_of-l.result s.args.target.now)
@@ -123,22 +123,22 @@ write_archive-requires c =
 pub returns : goal.returns
 returns c =
     let library : Library =
-        let s = c in record { documents = s.args.documents; lengths = s.args.lengths.now; entries = s.args.entries.now } in
+    let s = c in record { documents = s.args.documents; lengths = s.args.lengths.now; entries = s.args.entries.now } in
     let valid_at : Valid (library) =
-        let lib = library in
-        record {
-          limits = limits_of (sizes_of lib) (limits-are lib c.wide.result c.within_limits.result c.wide.ensures.0 c.within_limits.ensures ∙ c.if-not-within_limits.false);
-          within = within_any lib.documents lib.entries (sym c.beyond.ensures ∙ c.if-beyond.false);
-          total = sym c.total.ensures ∙ c.if-total-entries.false;
-        } in
+    let lib = library in
+    record {
+      limits = limits_of (sizes_of lib) (limits-are lib c.wide.result c.within_limits.result c.wide.ensures.0 c.within_limits.ensures ∙ c.if-not-within_limits.false);
+      within = within_any lib.documents lib.entries (sym c.beyond.ensures ∙ c.if-beyond.false);
+      total = sym c.total.ensures ∙ c.if-total-entries.false;
+    } in
     let layout_at : c.layout_of-l.result ≡ layout_of (sizes_of (library)) =
-        let lib = library in
-        c.layout_of-l.ensures
-        ∙ ap (λ (d : ℕ). layout_of (record { entries = length lib.entries; documents = d; terms = length lib.lengths })) c.wide-2.ensures.0 in
+    let lib = library in
+    c.layout_of-l.ensures
+    ∙ ap (λ (d : ℕ). layout_of (record { entries = length lib.entries; documents = d; terms = length lib.lengths })) c.wide-2.ensures.0 in
     let documents-at : c.layout_of-l.result.documents ≡ (library).documents =
-        ap (λ (l : Layout). l.documents) (layout_at) in
+    ap (λ (l : Layout). l.documents) (layout_at) in
     let size-at : c.archive_length-size.result ≡ archive_length (sizes_of (library)) =
-        c.archive_length-size.ensures.0 ∙ ap (λ (l : Layout). archive_length (sizes_in l)) (layout_at) in
+    c.archive_length-size.ensures.0 ∙ ap (λ (l : Layout). archive_length (sizes_in l)) (layout_at) in
     let s = c in
     let lib = library in
     (λ i. record {
