@@ -68,7 +68,7 @@ expect 'output full' 0 '' "$lost"
 run <&- >&-
 expect 'both closed' 0 '' "$lost"
 
-# Whether the signal SIGPIPE would end a process or is ignored: the write raises none.
+# Whether the signal SIGPIPE is at its default or ignored when the program begins: the program ignores it itself from the start.
 exec 3> >(:)
 wait $!
 run env --default-signal=PIPE <"$question" >&3

@@ -1,5 +1,5 @@
 -- The dated shortlist: which documents are in force on a day, the list of those that are shown, its need and what is covered, and the whole
--- result. Its moves are those of `Search` with the documents in force for those shown. Document 02, M-109.
+-- result. The moves of its search are not here yet. Document 02, M-109.
 use Rattle.std.specs.Prelude.{ℕ, ◌+◌, ◌*◌, min, List, Bool, cond, not, ◌&&◌, length, get_or, take, leb, ltb, eqb}
 use Rattle.bits.specs.Sequences.{all, tally, below}
 use Rattle.model.specs.Lists.{keep, part}
