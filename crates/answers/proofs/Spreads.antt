@@ -10,7 +10,7 @@ use Rattle.bits.specs.Sequences.{up_from}
 use Rattle.model.specs.Lists.{Every, overwrite}
 use Rattle.model.specs.Queries.{Pair, pair, flat, pair_at, pairs_in, flat_placed}
 use Rattle.model.specs.Probing.{nobody}
-use Rattle.model.proofs.Pairs.{length-flat, length_pairs, get_d_pairs}
+use Rattle.model.proofs.Pairs.{length-flat, length_pairs, get_or-pairs}
 use Rattle.model.proofs.Sorting.{every_at}
 use Rattle.model.proofs.FirstPlaces.{length-flat_placed}
 use Rattle.answers.specs.Spread.{Spread}
@@ -72,7 +72,7 @@ module _ (place : ℕ → ℕ) (n : ℕ) (before : List ℕ) where
         here : drop i (pairs_in before n) ≡ pair_at before i ∷ drop (suc i) (pairs_in before n)
         here =
             drop-cons (pairs_in before n) i nobody (omega (arith, length_pairs before n))
-            ∙ ap (λ (p : Pair). p ∷ drop (suc i) (pairs_in before n)) (get_d_pairs before n i l)
+            ∙ ap (λ (p : Pair). p ∷ drop (suc i) (pairs_in before n)) (get_or-pairs before n i l)
 
 -- ---- by the number of pairs that are left, one of which is next
 
@@ -85,7 +85,7 @@ module _ (place : ℕ → ℕ) (n : ℕ) (before : List ℕ) (room : 3 * n ≤ l
   -- what holds of all pairs holds of the next
   pub next_pair : (t : Pair → Bool) → Every t (pairs_in before n) → t (pair_at now (i - 1)) ≡ true
   next_pair t every =
-      ap t (spread_pair place n before room (i - 1) (omega arith) now here ∙ sym (get_d_pairs before n (i - 1) (omega arith)))
+      ap t (spread_pair place n before room (i - 1) (omega arith) now here ∙ sym (get_or-pairs before n (i - 1) (omega arith)))
       ∙ every_at t (pairs_in before n) (i - 1) nobody every (omega (arith, length_pairs before n))
 
   pub next_step : {after : List ℕ} (x : ℕ) → x ≡ place (pair_at now (i - 1)).document

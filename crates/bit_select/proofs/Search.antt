@@ -8,7 +8,7 @@ use lib.ListN.{length}
 use Rattle.bits.specs.Bits.{bit_at, bits_of}
 use Rattle.bits.specs.Rows.{count_below}
 use Rattle.bits.specs.Sequences.{occurrences, rank, select}
-use Rattle.bits.proofs.Bits.{length-bits_of, get_d_bits_of, rank-bits_of}
+use Rattle.bits.proofs.Bits.{length-bits_of, get_or-bits_of, rank-bits_of}
 use Rattle.bits.proofs.Sequences.{select_eq, select_none, select-zero, rank-all}
 
 module _ (v n : ℕ) (row : List ℕ) where
@@ -16,7 +16,7 @@ module _ (v n : ℕ) (row : List ℕ) where
   found_at p j h b e =
       let l : p < length (bits_of n row) = rw (length-bits_of n row) h in
       let r : rank v (bits_of n row) p + 1 ≡ j = omega (arith, rank-bits_of v n row p (omega arith)) in
-      select_eq v (bits_of n row) p j l (get_d_bits_of n row p h ∙ b) r
+      select_eq v (bits_of n row) p j l (get_or-bits_of n row p h ∙ b) r
 
   pub found_none : (j : ℕ) → count_below v row n < j → select v (bits_of n row) j ≡ n
   found_none j h =

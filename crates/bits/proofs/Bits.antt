@@ -14,7 +14,7 @@ use Rattle.bits.specs.Bits.{bit_at, bits_of}
 use Rattle.bits.specs.Rows.{count_below, of_kind, word_at}
 use Rattle.bits.specs.Sequences.{bit, up_from, below, occurrences, rank}
 use Rattle.bits.proofs.Tests.{le_or_lt}
-use Rattle.bits.proofs.Tally.{tally-append, map-append, up_from_snoc, length-up_from, get_d_map-below}
+use Rattle.bits.proofs.Tally.{tally-append, map-append, up_from_snoc, length-up_from, get_or-map-below}
 use Rattle.bits.proofs.Sequences.{rank_le, rank_mono}
 
 -- ---- the list of bits
@@ -39,9 +39,9 @@ pub take-bits_of : (n : ℕ) (row : List ℕ) (i : ℕ) → i ≤ n → take i (
 unfolding bits_of
 take-bits_of n row i h = take-map-up_from (bit_at row) 0 n i h
 
-pub get_d_bits_of : (n : ℕ) (row : List ℕ) (i : ℕ) → i < n → get_or (bits_of n row) i 0 ≡ bit_at row i
+pub get_or-bits_of : (n : ℕ) (row : List ℕ) (i : ℕ) → i < n → get_or (bits_of n row) i 0 ≡ bit_at row i
 unfolding bits_of
-get_d_bits_of n row i h = get_d_map-below (bit_at row) n i 0 h
+get_or-bits_of n row i h = get_or-map-below (bit_at row) n i 0 h
 
 pub bit_at_lt : (row : List ℕ) (i : ℕ) → bit_at row i < 2
 bit_at_lt row i = omega arith

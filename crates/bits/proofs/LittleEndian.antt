@@ -12,7 +12,7 @@ use lib.Dec.{eqb}
 use borrow.Author.Tests.{eqb-true, eq-eqb}
 use Rattle.bits.specs.Sequences.{below}
 use Rattle.bits.specs.Bits.{concat, bits_of, sample_count, little_endian, number_at, sample, samples_of, samples_right}
-use Rattle.bits.proofs.Tally.{tally_le_length, all-up_from, all-up_from-at, length-up_from, get_d_map-below}
+use Rattle.bits.proofs.Tally.{tally_le_length, all-up_from, all-up_from-at, length-up_from, get_or-map-below}
 use Rattle.bits.proofs.Bits.{length-bits_of}
 
 -- ---- one number
@@ -116,7 +116,7 @@ pub number_at_samples : (bits : List ℕ) → length bits < 2 ^ 32 → (t : ℕ)
 number_at_samples bits n t l =
     let s = sample_count (length bits) in
     let xs = map (sample bits) (below s) in
-    let at : get_or xs t 0 ≡ sample bits t = get_d_map-below (sample bits) s t 0 l in
+    let at : get_or xs t 0 ≡ sample bits t = get_or-map-below (sample bits) s t 0 l in
     let size : length xs ≡ s = length-map (below s) (sample bits) ∙ length-up_from 0 s in
     ap (λ (b : List ℕ). number_at b (4 * t)) (samples_numbers bits ∙ sym (append-nil (concat (map little_endian xs))))
     ∙ number_at-numbers xs [] t (omega arith) (omega (arith, sample_le bits t))
@@ -143,7 +143,7 @@ samples_are n samples row small size right =
     samples_numbers bits
     ∙ numbers-at samples small 0 xs (omega arith)
     (λ t l.
-    get_d_map-below (sample bits) (sample_count (length bits)) t 0 (omega arith)
+    get_or-map-below (sample bits) (sample_count (length bits)) t 0 (omega arith)
     ∙ sym
     (eqb-true (number_at samples (4 * t)) (sample bits t)
     (all-up_from-at (λ t. eqb (number_at samples (4 * t)) (sample bits t)) 0 (sample_count n) right t (omega arith) (omega arith)))

@@ -11,8 +11,8 @@ use lib.Dec.{eqb}
 use borrow.Author.Tests.{eqb-true, eq-eqb}
 use Rattle.bits.specs.Sequences.{below}
 use Rattle.bits.specs.Bits.{bit_at, bits_of, row_bytes, byte_of, pack, unused_clear}
-use Rattle.bits.proofs.Tally.{length-up_from, get_d_map-below, all-up_from, all-up_from-at}
-use Rattle.bits.proofs.Bits.{length-bits_of, get_d_bits_of}
+use Rattle.bits.proofs.Tally.{length-up_from, get_or-map-below, all-up_from, all-up_from-at}
+use Rattle.bits.proofs.Bits.{length-bits_of, get_or-bits_of}
 
 -- ---- a byte and its eight bits
 
@@ -49,16 +49,16 @@ pub length-pack : (bits : List ℕ) → length (pack bits) ≡ row_bytes (length
 unfolding pack
 length-pack bits = length-map (below (row_bytes (length bits))) (byte_of bits) ∙ length-up_from 0 (row_bytes (length bits))
 
-get_d_pack : (bits : List ℕ) (k : ℕ) → k < row_bytes (length bits) → get_or (pack bits) k 0 ≡ byte_of bits k
+get_or-pack : (bits : List ℕ) (k : ℕ) → k < row_bytes (length bits) → get_or (pack bits) k 0 ≡ byte_of bits k
 unfolding pack
-get_d_pack bits k l = get_d_map-below (byte_of bits) (row_bytes (length bits)) k 0 l
+get_or-pack bits k l = get_or-map-below (byte_of bits) (row_bytes (length bits)) k 0 l
 
 module _ (bits : List ℕ) (small : (i : ℕ) → get_or bits i 0 < 2) where
   -- bit i of the packed bits, inside the row and in its unused part
   bit_at-pack : (i : ℕ) → i < 8 * row_bytes (length bits) → bit_at (pack bits) i ≡ get_or bits i 0
   bit_at-pack i l =
       let e : 8 * (i / 8) + i % 8 ≡ i = omega arith in
-      ap (λ (b : ℕ). b / 2 ^ (i % 8) % 2) (get_d_pack bits (i / 8) (omega arith))
+      ap (λ (b : ℕ). b / 2 ^ (i % 8) % 2) (get_or-pack bits (i / 8) (omega arith))
       ∙ byte_bit bits small (i / 8) (i % 8) (omega arith)
       ∙ ap (λ (j : ℕ). get_or bits j 0) e
 
@@ -68,7 +68,7 @@ module _ (bits : List ℕ) (small : (i : ℕ) → get_or bits i 0 < 2) where
       ext_get_or 0 (bits_of (length bits) (pack bits)) bits (length-bits_of (length bits) (pack bits))
       (λ i l.
       let m : i < length bits = rw (← length-bits_of (length bits) (pack bits)) l in
-      get_d_bits_of (length bits) (pack bits) i m ∙ bit_at-pack i (omega arith))
+      get_or-bits_of (length bits) (pack bits) i m ∙ bit_at-pack i (omega arith))
 
   pub unused_pack : unused_clear (length bits) (pack bits) ≡ true
   unfolding unused_clear
@@ -99,7 +99,7 @@ module _ (n : ℕ) (row : List ℕ) (small : (k : ℕ) → get_or row k 0 < 256)
   bit_or_zero i l = go (dec_le (suc i) n)
     where
       go : Dec (i < n) → get_or (bits_of n row) i 0 ≡ bit_at row i
-      go (yes h) = get_d_bits_of n row i h
+      go (yes h) = get_or-bits_of n row i h
       go (no h) =
           get_or-eq_default (bits_of n row) 0 {n = i} (rw (length-bits_of n row) (omega arith))
           ∙ sym (eqb-true (bit_at row i) 0 (all-up_from-at (λ j. eqb (bit_at row j) 0) n (8 * row_bytes n - n) clear i (omega arith) (omega arith)))
@@ -124,4 +124,4 @@ module _ (n : ℕ) (row : List ℕ) (small : (k : ℕ) → get_or row k 0 < 256)
       ext_get_or 0 (pack (bits_of n row)) row (e ∙ sym size)
       (λ k l.
       let m : k < row_bytes n = omega arith in
-      get_d_pack (bits_of n row) k (rw (length-bits_of n row) m) ∙ byte_of_lem k m)
+      get_or-pack (bits_of n row) k (rw (length-bits_of n row) m) ∙ byte_of_lem k m)

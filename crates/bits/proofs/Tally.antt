@@ -95,10 +95,10 @@ pub length-up_from : (s n : ℕ) → length (up_from s n) ≡ n
 length-up_from s zero = refl
 length-up_from s (suc n) = ap suc (length-up_from (suc s) n)
 
-pub get_d_up_from : (s n i d : ℕ) → i < n → get_or (up_from s n) i d ≡ s + i
-get_d_up_from s zero i d l = absurd (not-suc-le-zero l)
-get_d_up_from s (suc n) zero d l = sym (add-zero s)
-get_d_up_from s (suc n) (suc i) d l = get_d_up_from (suc s) n i d (le_of_suc-le-suc l) ∙ omega arith
+pub get_or-up_from : (s n i d : ℕ) → i < n → get_or (up_from s n) i d ≡ s + i
+get_or-up_from s zero i d l = absurd (not-suc-le-zero l)
+get_or-up_from s (suc n) zero d l = sym (add-zero s)
+get_or-up_from s (suc n) (suc i) d l = get_or-up_from (suc s) n i d (le_of_suc-le-suc l) ∙ omega arith
 
 -- all of the numbers from s upward pass exactly where each of them does
 pub all-up_from : (p : ℕ → Bool) (s n : ℕ) → ((i : ℕ) → s ≤ i → i < s + n → p i ≡ true) → all p (up_from s n) ≡ true
@@ -115,8 +115,8 @@ all-up_from-at p s (suc n) e i a b = go (and_both (p s) (all p (up_from (suc s) 
     go t ih (no q) = ih t.1 i (omega arith) (omega arith)
 
 -- what a rule yields at the numbers below n
-pub get_d_map-below : {A : Type 0} (f : ℕ → A) (n i : ℕ) (d : A) → i < n → get_or (map f (below n)) i d ≡ f i
-get_d_map-below {A} f n i d l = go 0 n i l ∙ ap f (zero-add i)
+pub get_or-map-below : {A : Type 0} (f : ℕ → A) (n i : ℕ) (d : A) → i < n → get_or (map f (below n)) i d ≡ f i
+get_or-map-below {A} f n i d l = go 0 n i l ∙ ap f (zero-add i)
   where
     go : (s n i : ℕ) → i < n → get_or (map f (up_from s n)) i d ≡ f (s + i)
     go s zero i l = absurd (not-suc-le-zero l)

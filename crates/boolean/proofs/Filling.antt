@@ -7,7 +7,7 @@ use mathlib.Core.List.{List}
 use lib.ListN.{length, get_or, length-map}
 use lib.Seq.{sets}
 use Rattle.bits.specs.Sequences.{below}
-use Rattle.bits.proofs.Tally.{length-up_from, get_d_map-below}
+use Rattle.bits.proofs.Tally.{length-up_from, get_or-map-below}
 use Rattle.model.specs.Format.{Library}
 use Rattle.model.proofs.Stores.{sets_before, sets_at}
 use Rattle.bitmaps.specs.Words.{block_height}
@@ -34,7 +34,7 @@ module _ (lib : Library) (h : ℕ) (low : h ≤ 12) (terms : List ℕ) where
           let same : k ≡ i = omega arith in
           is ∙ ap (λ (n : ℕ). get_or (sets masks (64 * i) (bitmap lib h (get_or terms i 0))) (64 * n + b) 0) same
           ∙ sets_at masks (64 * i) (bitmap lib h (get_or terms i 0)) b (omega (arith, bitmap-length (get_or terms i 0))) (omega (arith, blocks_few h low))
-          ∙ get_d_map-below (term_word lib h (get_or terms i 0)) (2 ^ (h - block_height h)) b 0 m
+          ∙ get_or-map-below (term_word lib h (get_or terms i 0)) (2 ^ (h - block_height h)) b 0 m
           ∙ ap (λ (n : ℕ). term_word lib h (get_or terms n 0) b) (omega arith)
       go (no s) =
           is ∙ sets_before masks (64 * i) (bitmap lib h (get_or terms i 0)) (64 * k + b) (omega (arith, blocks_few h low))

@@ -9,7 +9,7 @@ use lib.ListN.{get_or}
 use lib.Dec.{leb, eqb}
 use borrow.Author.Tests.{leb-true, leb-false, le-leb, lt-leb, eqb-true, eqb-false}
 use Rattle.bits.proofs.Tests.{and_both, and_cases, le_or_lt}
-use Rattle.bits.proofs.Tally.{get_d_map-below}
+use Rattle.bits.proofs.Tally.{get_or-map-below}
 use Rattle.model.specs.Calendar.{year_of, month_of, day_of, leap, days_in, first_day, last_day, is_day}
 use Rattle.model.proofs.Calendar.{days_in_past}
 use Rattle.calendar.specs.Kinds.{kind_of, kinds, in_year}
@@ -17,7 +17,7 @@ use Rattle.calendar.proofs.Months.{common_within, leap_day, common_past}
 
 pub kinds-at : (table : List ℕ) (p : ℕ) → table ≡ kinds → p < 1300 → get_or table p 0 ≡ kind_of p
 unfolding kinds
-kinds-at table p e l = ap (λ (k : List ℕ). get_or k p 0) e ∙ get_d_map-below kind_of 1300 p 0 l
+kinds-at table p e l = ap (λ (k : List ℕ). get_or k p 0) e ∙ get_or-map-below kind_of 1300 p 0 l
 
 -- ---- what a byte says
 

@@ -17,10 +17,10 @@ use Rattle.model.specs.Reading.{Algebra, Frame, State, wanting, having, unread, 
 use Rattle.matching.specs.Parsing.{number_at, algebra, onward}
 
 -- within a list it does not matter what stands beyond its end
-pub get_d_within : (a b : ℕ) (l : List ℕ) (i : ℕ) → i < length l → get_or l i a ≡ get_or l i b
-get_d_within a b [] i h = absurd (not-suc-le-zero h)
-get_d_within a b (x ∷ xs) zero h = refl
-get_d_within a b (x ∷ xs) (suc i) h = get_d_within a b xs i (omega arith)
+pub get_or-within : (a b : ℕ) (l : List ℕ) (i : ℕ) → i < length l → get_or l i a ≡ get_or l i b
+get_or-within a b [] i h = absurd (not-suc-le-zero h)
+get_or-within a b (x ∷ xs) zero h = refl
+get_or-within a b (x ∷ xs) (suc i) h = get_or-within a b xs i (omega arith)
 
 -- a number other than the one beyond the end stands within
 pub within : (question : List ℕ) (at : ℕ) → (number_at question at ≡ 65535 → ⊥) → at < length question

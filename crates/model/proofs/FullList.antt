@@ -12,7 +12,7 @@ use lib.Dec.{eqb}
 use borrow.Author.Tests.{eqb-true, eq-eqb}
 use Rattle.bits.specs.Sequences.{bit, tally, below}
 use Rattle.bits.proofs.Tests.{look, and_both, both_and, le_or_lt, bit_eq, eqb_swap}
-use Rattle.bits.proofs.Tally.{tally-append, tally_le, tally_none, tally-map, tally-take_le, tally-take-drop, length-up_from, get_d_up_from}
+use Rattle.bits.proofs.Tally.{tally-append, tally_le, tally_none, tally-map, tally-take_le, tally-take-drop, length-up_from, get_or-up_from}
 use Rattle.model.specs.Lists.{keep, Every, Sorted}
 use Rattle.model.specs.Queries.{Pair}
 use Rattle.model.specs.TopK.{ahead, ahead_pair, ranking}
@@ -147,7 +147,7 @@ module _ (N k : ℕ) (count : ℕ → ℕ) (test : ℕ → Bool) where
 
       at : is (get_or (below N) d 0) ≡ true
       at =
-          ap is (get_d_up_from 0 N d 0 l ∙ zero-add d)
+          ap is (get_or-up_from 0 N d 0 l ∙ zero-add d)
           ∙ both_and (test d) (same (pair_by count d)) some
           (both_and (eqb d d) (eqb (count d) (count d)) (eq-eqb d d refl) (eq-eqb (count d) (count d) refl))
 

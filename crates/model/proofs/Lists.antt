@@ -26,10 +26,10 @@ module _ {A B : Type 0} where
   map-take f (suc n) (x ∷ xs) = ap (λ (r : List B). f x ∷ r) (map-take f n xs)
 
   -- inside the list whatever stands past its end
-  pub get_d_map : (f : A → B) (l : List A) (n : ℕ) (d : A) (e : B) → n < length l → get_or (map f l) n e ≡ f (get_or l n d)
-  get_d_map f [] n d e h = absurd (not-suc-le-zero h)
-  get_d_map f (x ∷ xs) zero d e h = refl
-  get_d_map f (x ∷ xs) (suc n) d e h = get_d_map f xs n d e (le_of_suc-le-suc h)
+  pub get_or-map : (f : A → B) (l : List A) (n : ℕ) (d : A) (e : B) → n < length l → get_or (map f l) n e ≡ f (get_or l n d)
+  get_or-map f [] n d e h = absurd (not-suc-le-zero h)
+  get_or-map f (x ∷ xs) zero d e h = refl
+  get_or-map f (x ∷ xs) (suc n) d e h = get_or-map f xs n d e (le_of_suc-le-suc h)
 
 module _ {A : Type 0} where
   pub concat-append : (xs ys : List (List A)) → concat (xs ++ ys) ≡ concat xs ++ concat ys

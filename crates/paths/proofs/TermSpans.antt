@@ -6,12 +6,12 @@ use mathlib.Core.List.{List, map}
 use lib.ListN.{length, get_or, take, length-map}
 use lib.Seq.{length-take-le, get_or-take, ext_get_or}
 use Rattle.bits.specs.Sequences.{below}
-use Rattle.bits.proofs.Tally.{length-up_from, get_d_map-below}
+use Rattle.bits.proofs.Tally.{length-up_from, get_or-map-below}
 use Rattle.model.specs.Lists.{part}
 use Rattle.model.specs.Opening.{contents}
 use Rattle.model.specs.Queries.{term_start, under}
 use Rattle.model.specs.TopK.{node, count_in}
-use Rattle.model.proofs.Lists.{within_at, get_d_map}
+use Rattle.model.proofs.Lists.{within_at, get_or-map}
 use Rattle.model.proofs.Sums.{sum-take_le}
 use Rattle.wavelet.specs.Levels.{entries_in, level_of}
 use Rattle.wavelet.specs.Spans.{Ordered, halves_of}
@@ -29,7 +29,7 @@ pub by_places : (f : ℕ → ℕ) (c : ℕ → ℕ) (ts : List ℕ) → ((k : �
 by_places f c ts e =
     let n : length (map c (below (length ts))) ≡ length ts = length-map (below (length ts)) c ∙ length-up_from 0 (length ts) in
     ext_get_or 0 (map c (below (length ts))) (map f ts) (n ∙ sym (length-map ts f))
-    (λ k l. get_d_map-below c (length ts) k 0 (omega arith) ∙ e k (omega arith) ∙ sym (get_d_map f ts k 0 0 (omega arith)))
+    (λ k l. get_or-map-below c (length ts) k 0 (omega arith) ∙ e k (omega arith) ∙ sym (get_or-map f ts k 0 0 (omega arith)))
 
 -- ---- the terms of an opened archive
 

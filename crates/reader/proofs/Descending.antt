@@ -11,13 +11,13 @@ use lib.Seq.{get_or-take, get_or-set_same, get_or-set_other, take_all, ext_get_o
 use lib.Dec.{ltb, eqb}
 use Rattle.bits.specs.Sequences.{below, tally}
 use Rattle.bits.specs.Bits.{bit_at, row_bytes}
-use Rattle.bits.proofs.Tally.{tally_same, tally-map, tally_le_length, length-up_from, get_d_map-below}
-use Rattle.bits.proofs.Bits.{get_d_bits_of}
+use Rattle.bits.proofs.Tally.{tally_same, tally-map, tally_le_length, length-up_from, get_or-map-below}
+use Rattle.bits.proofs.Bits.{get_or-bits_of}
 use Rattle.model.specs.Lists.{Within}
 use Rattle.model.specs.Rows.{row}
 use Rattle.model.specs.Opening.{length_at}
 use Rattle.model.specs.Walk.{pos, key}
-use Rattle.model.proofs.Lists.{within_at, map-take, get_d_map}
+use Rattle.model.proofs.Lists.{within_at, map-take, get_or-map}
 use Rattle.model.proofs.Wavelet.Groups.{length_groups, pos_lt}
 use Rattle.model.proofs.Wavelet.Rows.{key_half, key_lt, key-root, key_leaf, row-length, row-bit, row-pos_lt}
 use Rattle.model.proofs.Sums.{chunk_end}
@@ -77,7 +77,7 @@ module _ (h j : ℕ) (xs : List ℕ) (level : j < h) (within : Within (2 ^ h) xs
   ks-size = length-map xs (key h j)
 
   ks-at : (i : ℕ) → i < length xs → get_or ks i 0 ≡ key h j (get_or xs i 0)
-  ks-at i l = get_d_map (key h j) xs i 0 0 l
+  ks-at i l = get_or-map (key h j) xs i 0 0 l
 
   ks-below : (i : ℕ) → i < length ks → get_or ks i 0 < 2 ^ j
   ks-below i l =
@@ -118,7 +118,7 @@ module _ (h j : ℕ) (xs : List ℕ) (level : j < h) (within : Within (2 ^ h) xs
       (λ i l.
       let m : i < length xs = omega (arith, ks-size) in
       deep i (omega arith) ∙ ap (λ (b : ℕ). 2 * get_or ks i 0 + b) (bits (place_of ks i) (place_inside i m)) ∙ deeper i m
-      ∙ sym (get_d_map (key h (suc j)) xs i 0 0 m)))
+      ∙ sym (get_or-map (key h (suc j)) xs i 0 0 m)))
 
 -- no bits and all bits
 pub keys_root : (h : ℕ) (xs keys : List ℕ) → Within (2 ^ h) xs → length keys ≡ length xs → Zeros keys → keys ≡ map (key h 0) xs
@@ -126,12 +126,12 @@ keys_root h xs keys within size zeros =
     ext_get_or 0 keys (map (key h 0) xs) (size ∙ sym (length-map xs (key h 0)))
     (λ i l.
     let m : i < length xs = omega arith in
-    zeros i ∙ sym (get_d_map (key h 0) xs i 0 0 m ∙ key-root h (get_or xs i 0) (within_at (2 ^ h) xs i within m)))
+    zeros i ∙ sym (get_or-map (key h 0) xs i 0 0 m ∙ key-root h (get_or xs i 0) (within_at (2 ^ h) xs i within m)))
 
 pub keys_leaf : (h : ℕ) (xs : List ℕ) → map (key h h) xs ≡ xs
 keys_leaf h xs =
     ext_get_or 0 (map (key h h) xs) xs (length-map xs (key h h))
-    (λ i l. get_d_map (key h h) xs i 0 0 (omega (arith, length-map xs (key h h))) ∙ key_leaf h (get_or xs i 0))
+    (λ i l. get_or-map (key h h) xs i 0 0 (omega (arith, length-map xs (key h h))) ∙ key_leaf h (get_or xs i 0))
 
 -- ---- the rows in the bytes
 
@@ -146,7 +146,7 @@ module _ (bytes : List ℕ) (t : Levels) (r : Readable bytes t) (j : ℕ) (level
       let at = t.rows + j * row_bytes t.entries in
       let m : p < t.entries = omega (arith, length-entries_in bytes t) in
       ap (λ (b : ℕ). b / 2 ^ (p % 8) % 2) (sym (get_or-take (row_bytes t.entries) (drop at bytes) (p / 8) 0 (omega arith)))
-      ∙ sym (get_d_bits_of t.entries (row_in bytes t j) p m)
+      ∙ sym (get_or-bits_of t.entries (row_in bytes t j) p m)
       ∙ ap (λ (b : List ℕ). get_or b p 0) (sym (level_is bytes t j level))
 
   abbrev xs : List ℕ
@@ -210,4 +210,4 @@ read_more bytes lengths t x l e read r m = go (ℕ_discrete r t)
 pub read_all : (bytes lengths : List ℕ) (n : ℕ) → length lengths ≡ n → Read bytes n lengths → lengths ≡ map (length_at bytes) (below n)
 read_all bytes lengths n e read =
     ext_get_or 0 lengths (map (length_at bytes) (below n)) (e ∙ sym (length-map (below n) (length_at bytes) ∙ length-up_from 0 n))
-    (λ r l. read r (omega arith) ∙ sym (get_d_map-below (length_at bytes) n r 0 (omega arith)))
+    (λ r l. read r (omega arith) ∙ sym (get_or-map-below (length_at bytes) n r 0 (omega arith)))

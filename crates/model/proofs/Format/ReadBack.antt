@@ -12,7 +12,7 @@ use borrow.Author.Tests.{le-ltb, eq-eqb}
 use Rattle.bits.specs.Sequences.{all, up_from, below}
 use Rattle.bits.specs.Bits.{sum, bits_of, pack, unused_clear, number_at, samples_of, samples_right}
 use Rattle.bits.proofs.Tests.{both_and}
-use Rattle.bits.proofs.Tally.{all-up_from, length-up_from, get_d_map-below}
+use Rattle.bits.proofs.Tally.{all-up_from, length-up_from, get_or-map-below}
 use Rattle.bits.proofs.Pack.{bits_of-pack, unused_pack}
 use Rattle.bits.proofs.LittleEndian.{samples_right_lem}
 use Rattle.model.specs.Lists.{any, Within}
@@ -156,7 +156,7 @@ module _ (lib : Library) (v : Valid lib) where
       let size : length (map (length_at bytes) (below (length lib.lengths))) ≡ length lib.lengths
       = length-map (below (length lib.lengths)) (length_at bytes) ∙ length-up_from 0 (length lib.lengths) in
       ext_get_or 0 (map (length_at bytes) (below (length lib.lengths))) lib.lengths size
-      (λ t l. get_d_map-below (length_at bytes) (length lib.lengths) t 0 (omega arith) ∙ length_back t (omega arith))
+      (λ t l. get_or-map-below (length_at bytes) (length lib.lengths) t 0 (omega arith) ∙ length_back t (omega arith))
 
   pub contents-encode : contents (encode lib) ≡ lib
   contents-encode =

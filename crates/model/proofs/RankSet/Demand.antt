@@ -10,7 +10,7 @@ use lib.Dec.{leb, ltb}
 use borrow.Author.Tests.{lt-ltb, le-ltb, ltb-false}
 use Rattle.bits.specs.Sequences.{below, rank}
 use Rattle.bits.proofs.Tests.{look, not_false, or_neither, or_left, or_right}
-use Rattle.bits.proofs.Tally.{length-up_from, get_d_up_from}
+use Rattle.bits.proofs.Tally.{length-up_from, get_or-up_from}
 use Rattle.model.specs.Lists.{any, Within}
 use Rattle.model.specs.Outcome.{Outcome, answered, refused, refuse, and_then}
 use Rattle.model.specs.Format.{Library}
@@ -103,7 +103,7 @@ module _ (bytes : List ℕ) (lib : Library) (v : Valid lib) (holds : opened byte
   }
     where
       inside : (i : ℕ) → i < N → get_or (below N) i 0 < N
-      inside i b = omega (arith, get_d_up_from 0 N i 0 b)
+      inside i b = omega (arith, get_or-up_from 0 N i 0 b)
 
       unknown : (set : List ℕ) → (Within N set → ⊥) → any (leb N) set ≡ true
       unknown set w = go (look (any (leb N) set))

@@ -10,7 +10,7 @@ use lib.Dec.{leb, ltb, eqb}
 use Rattle.bits.specs.Sequences.{occurrences}
 use Rattle.bits.specs.Bits.{bits_of}
 use Rattle.bits.proofs.Tally.{tally_le_length}
-use Rattle.bits.proofs.Bits.{length-bits_of, get_d_bits_of, bit_at_lt}
+use Rattle.bits.proofs.Bits.{length-bits_of, get_or-bits_of, bit_at_lt}
 use Rattle.model.specs.Lists.{keep, Within}
 use Rattle.model.specs.Rows.{row, interleave, decode}
 use Rattle.model.proofs.Lists.{within_take, within_drop, within_of}
@@ -118,7 +118,7 @@ pub decoded_bits : (h n : ℕ) (bytes : ℕ → List ℕ) → RowsOf h n (decode
 decoded_bits h n bytes = decoded h n (λ j. bits_of n (bytes j)) (λ j l. length-bits_of n (bytes j)) (λ j l. within_bits_of (bytes j))
   where
     within_bits_of : (row : List ℕ) → Within 2 (bits_of n row)
-    within_bits_of row = within_of 2 (bits_of n row) (λ i l. rw (get_d_bits_of n row i (rw (length-bits_of n row) at l)) (bit_at_lt row i))
+    within_bits_of row = within_of 2 (bits_of n row) (λ i l. rw (get_or-bits_of n row i (rw (length-bits_of n row) at l)) (bit_at_lt row i))
 
 pub decode-of : {h n : ℕ} {xs : List ℕ} {rows : ℕ → List ℕ} → RowsOf h n xs rows → decode h n rows ≡ xs
 decode-of {h} {n} {xs} {rows} R =

@@ -15,7 +15,7 @@ use Rattle.bits.proofs.Tests.{eqb_iff, ltb_iff}
 use Rattle.bits.proofs.Tally.{tally-sum, tally_same, tally-append, tally-map}
 use Rattle.model.specs.Lists.{keep}
 use Rattle.model.specs.Walk.{zeros_in, left, right, pos_of}
-use Rattle.model.proofs.Lists.{map-append, map-take, get_d_map, tally-keep}
+use Rattle.model.proofs.Lists.{map-append, map-take, get_or-map, tally-keep}
 use Rattle.model.proofs.Wavelet.Groups.{groups_from, tally_ltb_suc, groups_front, groups_at, pos_lt, pos_end}
 
 -- ---- a number's half and last bit
@@ -97,5 +97,5 @@ module _ (w : ℕ → ℕ) (xs : List ℕ) (m q : ℕ) (h : q < m) where
 
   pub step-bit : (i : ℕ) → i < length xs → w (get_or xs i 0) / 2 ≡ q → get_or (row_of w xs m) (pos_of (λ v. w v / 2) xs q i) 0 ≡ w (get_or xs i 0) % 2
   step-bit i l e =
-      get_d_map (λ v. w v % 2) (groups_from (λ v. w v / 2) xs 0 m) (pos_of (λ v. w v / 2) xs q i) 0 0 (pos_lt (λ v. w v / 2) xs q m i h l e)
+      get_or-map (λ v. w v % 2) (groups_from (λ v. w v / 2) xs 0 m) (pos_of (λ v. w v / 2) xs q i) 0 0 (pos_lt (λ v. w v / 2) xs q m i h l e)
       ∙ ap (λ (v : ℕ). w v % 2) (groups_at (λ v. w v / 2) xs q m i h l e)

@@ -12,7 +12,7 @@ use borrow.Author.Tests.{lt-ltb, le-ltb, ne_eqb}
 use Rattle.bits.specs.Sequences.{bit, tally, below, occurrences}
 use Rattle.bits.specs.Bits.{sum}
 use Rattle.bits.proofs.Tests.{le_or_lt, bit_eq}
-use Rattle.bits.proofs.Tally.{tally_none, length-up_from, get_d_up_from}
+use Rattle.bits.proofs.Tally.{tally_none, length-up_from, get_or-up_from}
 use Rattle.model.specs.Lists.{any, Within}
 use Rattle.model.specs.Outcome.{answered, refuse}
 use Rattle.model.specs.Rows.{height}
@@ -45,7 +45,7 @@ documents_some : (N : ℕ) (xs : List ℕ) → Within N xs → 0 < length xs →
 documents_some N [] w l = absurd (omega arith)
 documents_some N (x ∷ xs) w l =
     let here : has (get_or (below N) x 0) ≡ true
-    = ap has (get_d_up_from 0 N x 0 w.0 ∙ zero-add x) ∙ lt-ltb 0 (occurrences x (x ∷ xs)) (omega (arith, bit_eq x x refl)) in
+    = ap has (get_or-up_from 0 N x 0 w.0 ∙ zero-add x) ∙ lt-ltb 0 (occurrences x (x ∷ xs)) (omega (arith, bit_eq x x refl)) in
     omega (arith, tally-take_lt has (below N) x 0 (let h = w.0 in omega (arith, length-up_from 0 N)) here)
   where
     has : ℕ → Bool

@@ -20,7 +20,7 @@ use Rattle.model.proofs.Probing.Insertion.{length-insert}
 use Rattle.model.proofs.Probing.Held.{held_new, held-sorted, held_few}
 use Rattle.model.proofs.Probing.Probed.{quantile-occurs, quantile_within}
 use Rattle.model.proofs.Probing.Rounds.{swept_stop, probe_again, probe_new}
-use Rattle.model.proofs.Pairs.{length_pairs, get_d_pairs, overwrite-pairs, drop_more}
+use Rattle.model.proofs.Pairs.{length_pairs, get_or-pairs, overwrite-pairs, drop_more}
 use Rattle.probing.specs.Slices.{marked, Room, Entered, Kept, Lent, Power, state_in}
 use Rattle.probing.proofs.Laws.Slices.{marked-at, marked-set}
 
@@ -123,7 +123,7 @@ module _ (out : List ℕ) (held k g : ℕ) where
   pub goes_on_full : 1 < g → (j : ℕ) → k ≡ suc j → held ≡ k → leb (get_or out (2 * j + 1) 0) (g - 1) ≡ goes_on k g (pairs_in out held)
   goes_on_full l j some full =
       let q : k - 1 ≡ j = omega arith in
-      rw (lt-ltb 1 g l, length_pairs out held, eq-eqb held k full, q, get_d_pairs out held j (omega arith)) (go (get_or out (2 * j + 1) 0) (le_or_lt g (get_or out (2 * j + 1) 0)))
+      rw (lt-ltb 1 g l, length_pairs out held, eq-eqb held k full, q, get_or-pairs out held j (omega arith)) (go (get_or out (2 * j + 1) 0) (le_or_lt g (get_or out (2 * j + 1) 0)))
     where
       go : (c : ℕ) → (g ≤ c) ⊎ (c < g) → leb c (g - 1) ≡ not (leb g c)
       go c (inl h) = rw (lt-leb c (g - 1) (omega (arith, l)), le-leb g c h)

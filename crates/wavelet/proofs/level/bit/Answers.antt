@@ -4,7 +4,7 @@ use Prim.Native.Nat.{ℕ}
 use native.Mathlib.Omega.{arith}
 use lib.ListN.{get_or}
 use Rattle.bits.specs.Bits.{bit_at}
-use Rattle.bits.proofs.Bits.{get_d_bits_of}
+use Rattle.bits.proofs.Bits.{get_or-bits_of}
 use Rattle.wavelet.specs.Levels.{row_in}
 use Rattle.wavelet.proofs.Stored.{length-row_in, level_is}
 use Rattle.wavelet.proofs.level.bit.Goals as goal
@@ -23,7 +23,7 @@ returns c =
     let r : List ℕ = row_in b t s.args.j in (
       c.bit.ensures.0
           ∙ ap (λ (l : List ℕ). bit_at l s.args.p) c.row_at.ensures
-          ∙ sym (get_d_bits_of t.entries r s.args.p s.requires.j_lt_height.1)
+          ∙ sym (get_or-bits_of t.entries r s.args.p s.requires.j_lt_height.1)
           ∙ ap (λ (l : List ℕ). get_or l s.args.p 0) (sym (level_is b t s.args.j s.requires.j_lt_height.0)),
       c.bit.ensures.1,
     )
