@@ -4,7 +4,7 @@ ghost use Rattle.archive_ranges.specs.Ranges.{bounds_in};
 ghost use Rattle.reader.specs.Reading.{reading_of};
 ghost use Rattle.writer.specs.Writing.{written_of};
 ghost use Rattle.answers.specs.Answers.{number_of};
-ghost use Rattle.moves.specs.Results.{topKOf};
+ghost use Rattle.moves.specs.Results.{top_k_of};
 ghost use Rattle.top_k.specs.Asked.{probed_of};
 ghost use Rattle.ffi.specs.Left as border;
 ghost use Rattle.ffi.specs.Left.{given, ended, Narrow, coded, one, two, three};
@@ -89,7 +89,7 @@ pub fn reading(answer: Reading, first: &mut u32, second: &mut u32, third: &mut u
 
 pub fn top_k(answer: TopK, first: &mut u32, second: &mut u32, third: &mut u32) -> u32
     ensures { coded result (three first.new second.new third.new)
-        ≡ given ended (topKOf answer) (three first.old second.old third.old) }
+        ≡ given ended (top_k_of answer) (three first.old second.old third.old) }
 {
     match answer {
         TopK::Done { listed, openings } => {

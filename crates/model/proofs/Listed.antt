@@ -14,7 +14,7 @@ use Rattle.model.proofs.Lists.{length-keep}
 use Rattle.model.proofs.Sorting.{same_length}
 use Rattle.model.proofs.Ranking.{ranking_same}
 use Rattle.model.proofs.FullList.{exactly_k}
-use Rattle.model.proofs.Greedy.Abstract.{need_for, ranking_of, topKOf}
+use Rattle.model.proofs.Greedy.Abstract.{need_for, ranking_of, top_k_of}
 use Rattle.model.proofs.Greedy.Answers.{covered_le}
 use Rattle.model.proofs.Greedy.Counts.{top_k-answer_by}
 
@@ -39,8 +39,8 @@ answer_le need allowance ps = go (leb (need ps) allowance)
     go false = omega (arith, covered_le need ps allowance (length ps), length-take (length ps) ps)
 
 -- over any count
-pub length-topKOf : (count : Node → ℕ) (lives : Node → Bool) (h N k allowance : ℕ) → length (pairs_of (topKOf count lives h N k allowance)) ≤ min k N
-length-topKOf count lives h N k allowance =
+pub length-top_k_of : (count : Node → ℕ) (lives : Node → Bool) (h N k allowance : ℕ) → length (pairs_of (top_k_of count lives h N k allowance)) ≤ min k N
+length-top_k_of count lives h N k allowance =
     omega (
       arith,
       answer_le (need_by (need_for count lives h)) allowance (take k (ranking_of count lives N)),

@@ -15,8 +15,8 @@ use Rattle.model.specs.Queries.{Pair, flat}
 use Rattle.model.specs.TopK.{ended_of, pairs_of, found_into}
 use Rattle.model.specs.Search.{Waiting, named_in, answer_of}
 use Rattle.model.specs.Frontier.{blocks}
-use Rattle.model.proofs.Listed.{length-topKOf}
-use Rattle.model.proofs.Greedy.Abstract.{topKOf}
+use Rattle.model.proofs.Listed.{length-top_k_of}
+use Rattle.model.proofs.Greedy.Abstract.{top_k_of}
 use Rattle.model.proofs.Greedy.Waits.{waits_root}
 use Rattle.model.proofs.Greedy.Answers.{pairs-answer}
 use Rattle.model.proofs.Greedy.Theorem.{greedy-of}
@@ -62,9 +62,9 @@ module _ (G : Ground) (ok : Sound G) where
 
 named_few : (G : Ground) → Sound G → (k allowance : ℕ) → length (named_in (moves_of G k allowance)) ≤ min k G.documents
 named_few G ok k allowance =
-    let e : named_in (moves_of G k allowance) ≡ pairs_of (topKOf G.count G.lives G.height G.documents k allowance) =
+    let e : named_in (moves_of G k allowance) ≡ pairs_of (top_k_of G.count G.lives G.height G.documents k allowance) =
     sym (pairs-answer (moves_of G k allowance)) ∙ ap pairs_of (greedy-of G.count G.lives ok.counted G.height G.documents ok.fits ok.outside k allowance) in
-    omega (arith, ap length e, length-topKOf G.count G.lives G.height G.documents k allowance)
+    omega (arith, ap length e, length-top_k_of G.count G.lives G.height G.documents k allowance)
 
 -- ---- how it goes on
 

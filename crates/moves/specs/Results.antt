@@ -89,11 +89,11 @@ found_by G k allowance = found_of flat G.documents (answer_of (moves_of G k allo
 -- ---- the answer to a question, with its refusals
 
 -- document 01's number and values for each case of the answer
-abbrev pub topKOf : TopK → Outcome model.Ended
-topKOf (top_k.Done listed openings) = answered (done_with listed openings)
-topKOf (top_k.Spent listed allowance) = answered (spent_with listed allowance)
-topKOf (top_k.Refused number) = refused number
+abbrev pub top_k_of : TopK → Outcome model.Ended
+top_k_of (top_k.Done listed openings) = answered (done_with listed openings)
+top_k_of (top_k.Spent listed allowance) = answered (spent_with listed allowance)
+top_k_of (top_k.Refused number) = refused number
 
 -- the answer, with the final content of the lent slices
-abbrev pub topKIs : TopK → List ℕ → List ℕ → SearchResult model.Ended
-topKIs r answers work = record { outcome = topKOf r; answers = answers; work = work }
+abbrev pub top_k_is : TopK → List ℕ → List ℕ → SearchResult model.Ended
+top_k_is r answers work = record { outcome = top_k_of r; answers = answers; work = work }

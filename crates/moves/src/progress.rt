@@ -2,7 +2,7 @@
 ghost use Rattle.std.specs.Prelude.{◌≡◌, ◌+◌, ◌*◌, ◌^◌, ◌≤◌, ◌<◌, length, set};
 ghost use Rattle.model.specs.Outcome.{answered};
 ghost use Rattle.moves.specs.Moves.{move_is};
-ghost use Rattle.moves.specs.Results.{goes_on, after, RoomFor, Countable, written_by, ended_by, ended_is, listed_by, topKOf};
+ghost use Rattle.moves.specs.Results.{goes_on, after, RoomFor, Countable, written_by, ended_by, ended_is, listed_by, top_k_of};
 
 use crate::{Ended, Move, Moved, TopK};
 
@@ -112,7 +112,7 @@ pub fn listed(e: Ended) -> usize
 
 // The answer of a search that was not refused.
 pub fn answer_of(e: Ended) -> TopK
-    ensures { topKOf result ≡ answered (ended_is e) }
+    ensures { top_k_of result ≡ answered (ended_is e) }
 {
     match e {
         Ended::Done { listed, openings } => TopK::Done { listed, openings },

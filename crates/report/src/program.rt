@@ -1,6 +1,6 @@
 // From the input to the report: f, l, k and the allowance, then an archive.
 ghost use Rattle.std.specs.Prelude.{◌≡◌, ◌*◌, ◌≤◌, length, take};
-ghost use Rattle.moves.specs.Results.{topKOf};
+ghost use Rattle.moves.specs.Results.{top_k_of};
 ghost use Rattle.report.specs.Report.{lines_of, answer_to, text_of, report, shown, written};
 ghost use Rattle.io.specs.Counts.{IsPrefixLen};
 ghost use Rattle.report.specs.Types.{Types, text_in, Listed};
@@ -29,9 +29,9 @@ fn put_lines(output: &mut [u8], answers: &[u32], n: usize) -> usize
 }
 
 fn put_answer(output: &mut [u8], answers: &[u32], r: TopK) -> usize
-    requires listed { Listed (topKOf r) }
+    requires listed { Listed (top_k_of r) }
     requires in_bounds { 12288 ≤ length answers.now }
-    ensures { Types (text_in (topKOf r) answers.now) 0 output.old result output.new }
+    ensures { Types (text_in (top_k_of r) answers.now) 0 output.old result output.new }
 {
     match r {
         TopK::Done { listed, openings } => {

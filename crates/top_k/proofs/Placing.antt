@@ -18,7 +18,7 @@ use Rattle.answers.proofs.Spreads.{pairs-written, length-written, placed_written
 use Rattle.model.proofs.Listed.{length-full, length-top_k}
 use Rattle.moves.specs.declared.Ended as moves
 use Rattle.moves.specs.declared.TopK.{TopK}
-use Rattle.moves.specs.Results.{listed_by, ended_is, result_is, topKOf, topKIs}
+use Rattle.moves.specs.Results.{listed_by, ended_is, result_is, top_k_of, top_k_is}
 use Rattle.search.specs.declared.Search.{Search}
 use Rattle.search.specs.Searchable.{Searchable, range_of}
 use Rattle.search.specs.Sought.{entries_of, greedy_pairs, probing_pairs, greedy_of, probing_of}
@@ -101,7 +101,7 @@ module _ (bytes : List ℕ) (s : Search) (ok : Searchable bytes s) (k : ℕ) (ou
     greedy_ready = ready (pairs_of answer) after left n listed_is_lem (length-top_k (height N) N xs k allowance) (greedy-counted N k xs (height N) allowance)
 
     pub greedy_placed : (final : List ℕ) → final ≡ overwrite (with_places s.a xs (pairs_in after n)) after
-        → (t : TopK) → topKOf t ≡ answered (ended_is r) → topKIs t final working ≡ found_into out work (answered (greedy_of k allowance (entries_of bytes s)))
+        → (t : TopK) → top_k_of t ≡ answered (ended_is r) → top_k_is t final working ≡ found_into out work (answered (greedy_of k allowance (entries_of bytes s)))
     greedy_placed final e t said = λ i. record {
       outcome = (said ∙ ap answered ended) i;
       answers = spread (pairs_of answer) after left n listed_is_lem final e i;

@@ -5,7 +5,7 @@ ghost use Rattle.std.specs.Prelude.{◌≡◌, length};
 ghost use Rattle.model.specs.Queries.{of_entries, of_terms};
 ghost use Rattle.model.specs.TopK.{found_into, greedy_result, probing_result};
 ghost use Rattle.archive.specs.Layout.{Opened};
-ghost use Rattle.moves.specs.Results.{topKIs};
+ghost use Rattle.moves.specs.Results.{top_k_is};
 ghost use Rattle.top_k.specs.Asked.{probed_is, greedy_found, probing_found, Ready, asked_in};
 
 use crate::question::over;
@@ -27,7 +27,7 @@ fn search_greedily(
     work: &mut [u32],
 ) -> TopK
     requires { Ready archive.now k (length answers.old) (length work.old) q }
-    ensures { topKIs result answers.new work.new
+    ensures { top_k_is result answers.new work.new
         ≡ found_into answers.old work.old (greedy_found k allowance (asked_in archive.now q)) }
 {
     match q {
@@ -74,7 +74,7 @@ pub fn greedy_entries_opened(
     work: &mut [u32],
 ) -> TopK
     requires { Opened archive.now layout }
-    ensures { topKIs result answers.new work.new
+    ensures { top_k_is result answers.new work.new
         ≡ greedy_result archive.now (of_entries a b) k allowance answers.old work.old }
 {
     let range = entry_range(layout, a, b);
@@ -91,7 +91,7 @@ pub fn greedy_entries(
     answers: &mut [u32],
     work: &mut [u32],
 ) -> TopK
-    ensures { topKIs result answers.new work.new
+    ensures { top_k_is result answers.new work.new
         ≡ greedy_result archive.now (of_entries a b) k allowance answers.old work.old }
 {
     match open(archive) {
@@ -114,7 +114,7 @@ pub fn greedy_terms_opened(
     work: &mut [u32],
 ) -> TopK
     requires { Opened archive.now layout }
-    ensures { topKIs result answers.new work.new
+    ensures { top_k_is result answers.new work.new
         ≡ greedy_result archive.now (of_terms f l) k allowance answers.old work.old }
 {
     let range = term_range(archive, layout, f, l);
@@ -131,7 +131,7 @@ pub fn greedy_terms(
     answers: &mut [u32],
     work: &mut [u32],
 ) -> TopK
-    ensures { topKIs result answers.new work.new
+    ensures { top_k_is result answers.new work.new
         ≡ greedy_result archive.now (of_terms f l) k allowance answers.old work.old }
 {
     match open(archive) {

@@ -21,18 +21,18 @@ use Rattle.answers.specs.Answers.{pairs_of}
 use Rattle.paths.specs.declared.Terms.{Terms}
 use Rattle.paths.specs.Paths.{terms_of, Asked}
 use Rattle.moves.specs.declared.TopK.{TopK}
-use Rattle.moves.specs.Results.{topKIs}
+use Rattle.moves.specs.Results.{top_k_is}
 
 -- for every accepted archive `bytes`, one to eight terms that it has, k and allowance, and whatever stands in lent slices as long as is asked: the
 -- answer, and what the slices hold after it
 pub demanded : (bytes : List ℕ) (s : Sizes) → opening bytes ≡ answered s → (q : Terms) → Asked (length (contents bytes).lengths) q
     → (k allowance : ℕ) (out work : List ℕ) → Room 2 (contents bytes).documents k out work
     → (answer : TopK) (after working : List ℕ)
-    → topKIs answer after working ≡ weighted_result bytes q.numbers q.size k allowance out work
-    → WeightedDemand (contents bytes) (terms_of q) k allowance out work (topKIs answer after working)
+    → top_k_is answer after working ≡ weighted_result bytes q.numbers q.size k allowance out work
+    → WeightedDemand (contents bytes) (terms_of q) k allowance out work (top_k_is answer after working)
 demanded bytes s archive q asked k allowance out work room answer after working =
     weighted_demand bytes s archive q.numbers q.size asked.some asked.few asked.known k allowance out work room
-    (topKIs answer after working)
+    (top_k_is answer after working)
 
 -- M-107's sentences: of every accepted archive, whatever was lent, what is answered to each question for the order and to each weighted search
 pub rarest_first_demanded : (bytes : List ℕ) (s : Sizes) → opening bytes ≡ answered s → (lent : List ℕ) (k allowance : ℕ) (out work : List ℕ)
@@ -40,9 +40,9 @@ pub rarest_first_demanded : (bytes : List ℕ) (s : Sizes) → opening bytes ≡
     → ((numbers : List ℕ) (size : ℕ) → pairs_of (order numbers size) (after numbers size) ≡ rarest_first_result bytes numbers size lent)
     → (found : List ℕ → ℕ → TopK) (listed working : List ℕ → ℕ → List ℕ)
     → ((numbers : List ℕ) (size : ℕ)
-    → topKIs (found numbers size) (listed numbers size) (working numbers size) ≡ weighted_result bytes numbers size k allowance out work)
+    → top_k_is (found numbers size) (listed numbers size) (working numbers size) ≡ weighted_result bytes numbers size k allowance out work)
     → RarestFirstDemand (contents bytes) lent (λ numbers size. pairs_of (order numbers size) (after numbers size))
-    (λ numbers size. topKIs (found numbers size) (listed numbers size) (working numbers size))
+    (λ numbers size. top_k_is (found numbers size) (listed numbers size) (working numbers size))
 rarest_first_demanded bytes s archive lent k allowance out work order after promised found listed working promise =
     subst₂ (λ (f : List ℕ → ℕ → PairsResult) (g : List ℕ → ℕ → SearchResult Ended). RarestFirstDemand (contents bytes) lent f g)
     (fun_ext (λ numbers. fun_ext (λ size. sym (promised numbers size)))) (fun_ext (λ numbers. fun_ext (λ size. sym (promise numbers size))))

@@ -3,7 +3,7 @@
 ghost use Rattle.std.specs.Prelude.{◌≡◌};
 ghost use Rattle.model.specs.Weighted.{weighted_result};
 ghost use Rattle.archive.specs.Layout.{Opened};
-ghost use Rattle.moves.specs.Results.{topKIs};
+ghost use Rattle.moves.specs.Results.{top_k_is};
 
 use crate::run::weighted_in;
 use archive::{Layout, Opening, open};
@@ -21,7 +21,7 @@ pub fn weighted_opened(
     work: &mut [u32],
 ) -> TopK
     requires { Opened archive.now layout }
-    ensures { topKIs result answers.new work.new
+    ensures { top_k_is result answers.new work.new
         ≡ weighted_result archive.now q.numbers q.size k allowance answers.old work.old }
 {
     if q.size == 0 {
@@ -51,7 +51,7 @@ pub fn weighted(
     answers: &mut [u32],
     work: &mut [u32],
 ) -> TopK
-    ensures { topKIs result answers.new work.new
+    ensures { top_k_is result answers.new work.new
         ≡ weighted_result archive.now q.numbers q.size k allowance answers.old work.old }
 {
     match open(archive) {

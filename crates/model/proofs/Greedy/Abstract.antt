@@ -46,5 +46,5 @@ module _ (count : Node → ℕ) (lives : Node → Bool) where
   need_for h p = tally (needed_for p) (inner_nodes h)
 
   -- the top-k answer: of the ranking's first k, all or the longest front part that the allowance covers
-  abbrev pub topKOf : ℕ → ℕ → ℕ → ℕ → Answer
-  topKOf h N k allowance = answer_by (need_by (need_for h)) allowance (take k (ranking_of N))
+  abbrev pub top_k_of : ℕ → ℕ → ℕ → ℕ → Answer
+  top_k_of h N k allowance = answer_by (need_by (need_for h)) allowance (take k (ranking_of N))

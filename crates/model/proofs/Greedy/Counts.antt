@@ -19,7 +19,7 @@ use Rattle.model.specs.Search.{Waiting, begin, occupied, wait}
 use Rattle.model.proofs.Lists.{keep-map, tally-keep, tally_within}
 use Rattle.model.proofs.Sorting.{every_take}
 use Rattle.model.proofs.Ranking.{ranking_same, every_last}
-use Rattle.model.proofs.Greedy.Abstract.{Counted, counted-of-sum, need_by, covered_by, answer_by, ranking_of, needed_for, need_for, topKOf}
+use Rattle.model.proofs.Greedy.Abstract.{Counted, counted-of-sum, need_by, covered_by, answer_by, ranking_of, needed_for, need_for, top_k_of}
 use Rattle.model.proofs.Greedy.Answers.{answer_by_same}
 
 -- ---- counts
@@ -130,8 +130,8 @@ module _ (xs : List ℕ) where
       ap (λ (r : List Pair). cond (leb (need h xs full) allowance) (done full (need h xs full)) (spent r allowance))
       (covered-covered_by h allowance full (length full))
 
-  pub topKOf-top_k : (h N k allowance : ℕ) → topKOf (count_in xs) (occupied xs) h N k allowance ≡ top_k h N xs k allowance
-  topKOf-top_k h N k allowance =
+  pub top_k_of-top_k : (h N k allowance : ℕ) → top_k_of (count_in xs) (occupied xs) h N k allowance ≡ top_k h N xs k allowance
+  top_k_of-top_k h N k allowance =
       ap (λ (r : List Pair). answer_by (need_by (need_for (count_in xs) (occupied xs) h)) allowance (take k r)) (ranking_of-ranking N)
       ∙ answer_by_same (need_by (need_for (count_in xs) (occupied xs) h)) (need h xs) allowance (full_list N k xs)
       (λ m l. need-present h (take m (full_list N k xs)) (every_take present m (full_list N k xs) (every_present N k)))

@@ -13,16 +13,16 @@ use Rattle.model.specs.Queries.{Pair}
 use Rattle.model.specs.TopK.{Node, node, count_in, full_list, need, covered, done, spent, top_k, pairs_of}
 use Rattle.model.specs.Search.{Waiting, is_opening, is_spent, answer_of, wait, moves_from, occupied, search_moves}
 use Rattle.model.proofs.Lists.{within_le}
-use Rattle.model.proofs.Greedy.Abstract.{Counted, need_by, answer_by, need_for, topKOf}
+use Rattle.model.proofs.Greedy.Abstract.{Counted, need_by, answer_by, need_for, top_k_of}
 use Rattle.model.proofs.Greedy.Moves.{wait-join, moves_visits, answer_moves, toll_of, pairs_in}
 use Rattle.model.proofs.Greedy.Order.{root, order, order-ends, order-need, order-ranking}
 use Rattle.model.proofs.Greedy.Answers.{answer_by_same, answer_by_mono, figure_of, is_done, figure-answer, done_answer}
-use Rattle.model.proofs.Greedy.Counts.{counted, outside, begin-root, top_k-answer_by, topKOf-top_k}
+use Rattle.model.proofs.Greedy.Counts.{counted, outside, begin-root, top_k-answer_by, top_k_of-top_k}
 
 -- over any count that never rises from a node to its halves, where of the numbers below 2 ^ h only those below N live
 pub greedy-of : (count : Node → ℕ) (lives : Node → Bool) → Counted count lives → (h N : ℕ) → N ≤ 2 ^ h
     → ((d : ℕ) → N ≤ d → d < 2 ^ h → lives (node zero d) ≡ false) → (k allowance : ℕ)
-    → answer_of (moves_from count lives (k + allowance) k allowance (wait count lives (node h 0) [])) ≡ topKOf count lives h N k allowance
+    → answer_of (moves_from count lives (k + allowance) k allowance (wait count lives (node h 0) [])) ≡ top_k_of count lives h N k allowance
 greedy-of count lives counted h N fits out k allowance =
     let f = k + allowance in
     let ns = order count lives h f in
@@ -42,7 +42,7 @@ greedy h N fits xs within k allowance =
     ap (λ (w : List Waiting). answer_of (moves_from (count_in xs) (occupied xs) (k + allowance) k allowance w))
     (begin-root h xs (within_le N (2 ^ h) fits xs within))
     ∙ greedy-of (count_in xs) (occupied xs) (counted xs) h N fits (λ d l u. outside N xs within d l) k allowance
-    ∙ topKOf-top_k xs h N k allowance
+    ∙ top_k_of-top_k xs h N k allowance
 
 -- ---- what follows
 

@@ -15,7 +15,7 @@ use Rattle.model.specs.TopK.{Node, node, ranking, need_by, answer_by}
 use Rattle.model.specs.Search.{Waiting, answer_of, wait, moves_from}
 use Rattle.model.specs.Weighted.{Weighed, documents_in, weighed_term, weighed, score_in, lives_in, weighted_need, weighted_top_k, weighted_begin, weighted_moves}
 use Rattle.model.proofs.Lists.{within_le, within_part}
-use Rattle.model.proofs.Greedy.Abstract.{topKOf}
+use Rattle.model.proofs.Greedy.Abstract.{top_k_of}
 use Rattle.model.proofs.Greedy.Counts.{count_leaf, outside}
 use Rattle.model.proofs.Greedy.Theorem.{greedy-of}
 use Rattle.model.proofs.Weighted.Weights.{weight_le_48}
@@ -28,9 +28,9 @@ weighted_begin_lem h ws a =
     ap₂ (λ (b : Bool) (c : ℕ). cond b (record { block = node h 0; count = c } ∷ []) []) (sym (lives_root h ws a)) (sym (score-root h ws a))
 
 -- by documents and not by leaves
-pub topKOf_weighted : (ws : List Weighed) (h N k allowance : ℕ)
-    → topKOf (score_in ws) (lives_in ws) h N k allowance ≡ weighted_top_k ws h N k allowance
-topKOf_weighted ws h N k allowance =
+pub top_k_of_weighted : (ws : List Weighed) (h N k allowance : ℕ)
+    → top_k_of (score_in ws) (lives_in ws) h N k allowance ≡ weighted_top_k ws h N k allowance
+top_k_of_weighted ws h N k allowance =
     ap₂ (λ (f : ℕ → Pair) (p : ℕ → Bool). answer_by (need_by (weighted_need ws h)) allowance (take k (ranking (map f (keep p (below N))))))
     (fun_ext (λ d. ap (λ (c : ℕ). record { document = d; count = c }) (score_leaf ws d))) (fun_ext (lives_leaf ws))
 
@@ -44,7 +44,7 @@ module _ (h N : ℕ) (fits : N ≤ 2 ^ h) (ws : List Weighed) (within : AllWithi
       ap (λ (w : List Waiting). answer_of (moves_from (score_in ws) (lives_in ws) (k + allowance) k allowance w))
       (weighted_begin_lem h ws (all_within_le N (2 ^ h) fits ws within))
       ∙ greedy-of (score_in ws) (lives_in ws) (scored ws) h N fits (λ d l u. not_living N ws within d l) k allowance
-      ∙ topKOf_weighted ws h N k allowance
+      ∙ top_k_of_weighted ws h N k allowance
 
 -- ---- of a library
 

@@ -18,7 +18,7 @@ use Rattle.model.proofs.Lists.{within_part}
 use Rattle.model.proofs.Format.WriteBack as opened
 use Rattle.search.specs.Sought.{Asked, greedy_of, probing_of}
 use Rattle.moves.specs.declared.TopK.{TopK}
-use Rattle.moves.specs.Results.{topKOf}
+use Rattle.moves.specs.Results.{top_k_of}
 use Rattle.top_k.specs.declared.Probed.{Probed}
 use Rattle.top_k.specs.Asked.{probed_of, with_room, asked}
 use Rattle.top_k.proofs.Demand3.FullList as shown
@@ -101,7 +101,7 @@ module _ (bytes : List ℕ) (s : Sizes) (archive : opening bytes ≡ answered s)
 -- what `greedy_entries`, `greedy_terms`, `probing_entries` and `probing_terms` promise, each of the answer and of what the lent slices hold after it
 abbrev pub Greedily : List ℕ → Range → ℕ → ℕ → List ℕ → List ℕ → TopK → List ℕ → List ℕ → Type 0
 Greedily bytes range k allowance out work answer after working =
-    ◌≡◌ {A = SearchResult Ended} (record { outcome = topKOf answer; answers = after; work = working }) (greedy_result bytes range k allowance out work)
+    ◌≡◌ {A = SearchResult Ended} (record { outcome = top_k_of answer; answers = after; work = working }) (greedy_result bytes range k allowance out work)
 
 abbrev pub ByProbing : List ℕ → Range → ℕ → List ℕ → List ℕ → Probed → List ℕ → List ℕ → Type 0
 ByProbing bytes range k out work answer after working =
@@ -113,7 +113,7 @@ module _ (bytes : List ℕ) (s : Sizes) (archive : opening bytes ≡ answered s)
   abbrev Demanded : ℕ → List ℕ → Type 0
   Demanded from xs =
       Demand3 (contents bytes).documents k allowance from xs
-      out (record { outcome = topKOf answer; answers = after; work = working })
+      out (record { outcome = top_k_of answer; answers = after; work = working })
       out' (record { outcome = probed_of probed; answers = after'; work = working' })
 
   -- the entries a up to but without b
@@ -126,7 +126,7 @@ module _ (bytes : List ℕ) (s : Sizes) (archive : opening bytes ≡ answered s)
       let accepted : bounds_of (contents bytes) (of_entries a b) ≡ answered r
       = ap₂ (λ (c d : Bool). refuse 11 (c || d) (answered r)) (le-ltb b a order) (le-ltb n b inside) in
       demand_3 bytes s archive (of_entries a b) r accepted k allowance
-      out work room (record { outcome = topKOf answer; answers = after; work = working }) g
+      out work room (record { outcome = top_k_of answer; answers = after; work = working }) g
       out' work' room' (record { outcome = probed_of probed; answers = after'; work = working' }) p
 
   -- the terms f to l, both included
@@ -139,5 +139,5 @@ module _ (bytes : List ℕ) (s : Sizes) (archive : opening bytes ≡ answered s)
       let accepted : bounds_of (contents bytes) (of_terms f l) ≡ answered r
       = (λ i. refuse 11 (le-ltb l f order i || lt-leb W f (omega arith) i || lt-leb W l known i) (answered r)) in
       demand_3 bytes s archive (of_terms f l) r accepted k allowance
-      out work room (record { outcome = topKOf answer; answers = after; work = working }) g
+      out work room (record { outcome = top_k_of answer; answers = after; work = working }) g
       out' work' room' (record { outcome = probed_of probed; answers = after'; work = working' }) p

@@ -5,7 +5,7 @@ use Prim.Native.Nat.{ℕ, ◌-◌}
 use mathlib.Core.List.{List}
 use lib.ListN.{length, take, drop, length-drop}
 use lib.Seq.{take-length}
-use Rattle.moves.specs.Results.{topKOf}
+use Rattle.moves.specs.Results.{top_k_of}
 use Rattle.report.specs.Report.{shortlist_of, text_of}
 use Rattle.report.specs.Types.{Types}
 use Rattle.report.proofs.Reported.{reported, reported_few}
@@ -24,7 +24,7 @@ put_answer-requires c =
     let found = c.greedy_terms-r in
     let few =
     reported_few (archive_in s.args.input.now) c.number-f.result c.number-l.result c.number-k.result c.number-allowance.result
-    s.args.answers.now s.args.work.now s.requires.in_bounds_2.0 s.requires.in_bounds_2.1 (topKOf found.result) found.new.answers found.new.work found.ensures
+    s.args.answers.now s.args.work.now s.requires.in_bounds_2.0 s.requires.in_bounds_2.1 (top_k_of found.result) found.new.answers found.new.work found.ensures
     in record {
       listed = few;
       in_bounds = omega (arith, found.auto.answers);
@@ -42,6 +42,6 @@ returns c =
     let allowance = c.number-allowance in
     let text =
     reported (archive_in input) f.result l.result k.result allowance.result s.args.answers.now s.args.work.now
-    s.requires.in_bounds_2.0 s.requires.in_bounds_2.1 (topKOf found.result) found.new.answers found.new.work found.ensures
+    s.requires.in_bounds_2.0 s.requires.in_bounds_2.1 (top_k_of found.result) found.new.answers found.new.work found.ensures
     in
     subst (λ (t : List ℕ). Types t 0 s.args.output.now put.result put.new.output) (text ∙ (λ i. text_of (shortlist_of (archive_is input i) (f.ensures.0 i) (l.ensures.0 i) (k.ensures.0 i) (allowance.ensures.0 i)))) put.ensures
