@@ -1,0 +1,2 @@
+-- What a result says of an outcome.
+pub mod Outcomes

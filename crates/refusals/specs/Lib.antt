@@ -1,0 +1,2 @@
+-- The numbers of the refusals, and what a result with one comes to.
+pub mod Refusals
