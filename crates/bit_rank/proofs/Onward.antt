@@ -1,10 +1,10 @@
 -- The law of rank onward from a place whose rank is known.
 use mathlib.Core.Path.{◌≡◌, ap}
+use mathlib.Core.Bool.{true}
 use mathlib.Core.List.{List}
 use Prim.Native.Nat.{ℕ, ◌+◌, ◌-◌, ◌*◌, ◌/◌, ◌%◌, ◌^◌, ◌≤◌, ◌<◌}
 use native.Mathlib.Omega.{arith}
 use lib.Count.{ones}
-use lib.Dec.{lit<}
 use lib.ListN.{get_or}
 use Rattle.bits.specs.Bits.{bits_of}
 use Rattle.bits.specs.Rows.{count_below, word_at}
@@ -17,7 +17,7 @@ pub ones-onward : (row : List ℕ) → ((i : ℕ) → get_or row i 0 < 256) → 
     → count_below 1 row (x + m) ≡ count_below 1 row x + ones (word_at row (x / 8) / 2 ^ (x % 8) % 2 ^ m)
 ones-onward row bytes x m h =
     let p : 8 * (x / 8) + x % 8 ≡ x = omega arith in
-    rw p at (count_in_word row bytes 1 (x / 8) (x % 8) m (lit< tt) (omega arith))
+    rw p at (count_in_word row bytes true (x / 8) (x % 8) m (omega arith))
 
 -- the rank of y by that of x and what lies between
 pub rank-onward : (n : ℕ) (row : List ℕ) (x y c r : ℕ) → x ≤ y → y ≤ n → c ≡ rank 1 (bits_of n row) x

@@ -13,13 +13,11 @@ pub fn samples_right(samples: &[u8], row: &[u8], n: usize) -> bool
 {
     let m = (n + 511) / 512;
     let mut count: usize = 0;
-    let mut t = 0;
-    while t < m {
+    for t in 0..m {
         if number(samples, 4 * t) != count {
             return false;
         }
         count += block_ones(row, n, t);
-        t += 1;
     }
     true
 }

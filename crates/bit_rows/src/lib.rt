@@ -9,8 +9,8 @@ mod blocks;
 mod check;
 mod write;
 
-pub use bit_rank::{ones_between, rank0, rank1, rank1_from};
-pub use bit_select::{select0, select0_near, select1, select1_near};
-pub use bits::{bit, number, ones_before, put_number};
+pub use bit_rank::{ones_between, rank, rank1, rank1_from};
+pub use bit_select::{select, select_near};
+pub use bits::{Row, bit, number, ones_before, put_number};
 pub use check::{samples_right, unused_clear};
 pub use write::{fill_samples, put_bit};

@@ -23,10 +23,8 @@ pub fn fill_samples(samples: &mut [u8], row: &[u8], n: usize)
 {
     let m = (n + 511) / 512;
     let mut count: usize = 0;
-    let mut t = 0;
-    while t < m {
+    for t in 0..m {
         put_number(samples, 4 * t, count);
         count += block_ones(row, n, t);
-        t += 1;
     }
 }

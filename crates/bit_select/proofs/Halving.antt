@@ -1,5 +1,5 @@
 -- Laws of a search by halving: of blocks, and inside a word.
-use mathlib.Core.Path.{◌≡◌, ap, ◌∙◌}
+use mathlib.Core.Path.{◌≡◌, refl, ap, ◌∙◌}
 use mathlib.Core.Bool.{Bool, true, false}
 use mathlib.Core.List.{List}
 use Prim.Native.Nat.{ℕ, ◌+◌, ◌-◌, ◌*◌, ◌/◌, ◌%◌, ◌^◌, ◌≤◌, ◌<◌}
@@ -11,6 +11,7 @@ use lib.ListN.{get_or}
 use lib.Pow.{shr-shr}
 use borrow.Author.Tests.{ltb-true}
 use Rattle.bits.specs.Rows.{count_below, of_kind, word_at}
+use Rattle.bits.specs.Sequences.{bit}
 use Rattle.bit_select.specs.Search.{InWord, times_of}
 use Rattle.bits.proofs.Words.{count_in_word}
 use mir.Val.{bool_byte}
@@ -18,6 +19,10 @@ use mir.Val.{bool_byte}
 pub times_bool : (b : Bool) (x : ℕ) → x * bool_byte b ≡ times_of b x
 times_bool true x = mul-one x
 times_bool false x = mul-zero x
+
+pub byte-bit : (b : Bool) → bool_byte b ≡ bit b
+byte-bit true = refl
+byte-bit false = refl
 
 pub times_le : (b : Bool) (x : ℕ) → times_of b x ≤ x
 times_le true x = omega arith
@@ -31,16 +36,15 @@ halve_step v row j lo half x e h false t = rw (add-zero lo) h
 
 module _ (row : List ℕ) (bytes : (i : ℕ) → get_or row i 0 < 256) where
   -- the w lowest of the bits that are left are dropped where the wanted bit lies behind them
-  pub narrow_step : (v k j w bits place before here : ℕ) → InWord v row k j (2 * w) bits place before → here ≡ of_kind v w (ones (bits % 2 ^ w))
+  pub narrow_step : (v : Bool) (k j w bits place before here : ℕ) → InWord v row k j (2 * w) bits place before → here ≡ of_kind v w (ones (bits % 2 ^ w))
       → (b : Bool) → ltb (before + here) j ≡ b → InWord v row k j w (bits / 2 ^ times_of b w) (place + times_of b w) (before + times_of b here)
   narrow_step v k j w bits place before here i e true t =
       let s = place - 8 * k in
       let x = word_at row k in
       let p : 8 * k + s ≡ place = omega arith in
       let q : s + w ≡ place + w - 8 * k = omega arith in
-      let c = rw p at (count_in_word row bytes v k s w i.kind (omega arith)) in
+      let c = rw p at (count_in_word row bytes v k s w (omega arith)) in
       record {
-        kind = i.kind;
         small = i.small;
         after = omega arith;
         room = omega arith;
@@ -51,11 +55,10 @@ module _ (row : List ℕ) (bytes : (i : ℕ) → get_or row i 0 < 256) where
   narrow_step v k j w bits place before here i e false t =
       let q : place - 8 * k ≡ place + 0 - 8 * k = omega arith in
       record {
-        kind = i.kind;
         small = i.small;
         after = omega arith;
         room = omega arith;
         left = div-one bits ∙ i.left ∙ ap (λ (m : ℕ). word_at row k / 2 ^ m) q;
-        counted = ap (count_below v row) (add-zero place) ∙ omega arith;
+        counted = ap (count_below (bit v) row) (add-zero place) ∙ omega arith;
         fewer = omega arith;
       }

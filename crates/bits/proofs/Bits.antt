@@ -1,12 +1,13 @@
 -- Laws of the bits of a row of bytes: its list of bits, the counts below a place, and the counts of bytes and words.
 use mathlib.Core.Path.{◌≡◌, refl, sym, ap, ◌∙◌}
 use mathlib.Core.Logic.{◌⊎◌, inl, inr}
+use mathlib.Core.Bool.{Bool, true, false}
 use mathlib.Core.List.{List, [], ◌∷◌, ◌++◌, map}
 use Prim.Native.Nat.{ℕ, zero, suc, ◌+◌, ◌-◌, ◌*◌, ◌/◌, ◌%◌, ◌^◌, ◌≤◌, ◌<◌}
 use native.Mathlib.Nat.{le_refl, add_assoc, le_of_suc-le-suc, not-suc-le-zero, zero-add, mod-eq_of_lt}
 use native.Mathlib.Numerals.{one-add}
 use native.Mathlib.Omega.{arith}
-use lib.Count.{ones, ones_cat, ones-le}
+use lib.Count.{ones, ones_cat}
 use lib.Dec.{eqb, lit<, lit≤}
 use lib.ListN.{length, take, get_or, length-map}
 use lib.Pow.{pow_pos, mod-pow-add, mod-mod-pow, shl_exact}
@@ -84,10 +85,9 @@ count_both row zero = omega (arith, count-zero 0 row, count-zero 1 row)
 count_both row (suc i) =
     omega (arith, count-suc 0 row i, count-suc 1 row i, bit_kinds (bit_at row i) (omega arith), count_both row i)
 
-pub count_kind : (v : ℕ) (row : List ℕ) (i : ℕ) → v < 2 → of_kind v i (count_below 1 row i) ≡ count_below v row i
-count_kind zero row i h = omega (arith, count_both row i)
-count_kind (suc zero) row i h = refl
-count_kind (suc (suc v)) row i h = absurd (not-suc-le-zero (le_of_suc-le-suc (le_of_suc-le-suc h)))
+pub count_kind : (v : Bool) (row : List ℕ) (i : ℕ) → of_kind v i (count_below 1 row i) ≡ count_below (bit v) row i
+count_kind true row i = refl
+count_kind false row i = omega (arith, count_both row i)
 
 -- ---- bytes and words
 
@@ -206,24 +206,8 @@ shl_one_word r h = shl_exact {a = 1} 1 r 64 (lit< tt) (omega arith) ∙ omega ar
 pub shl_bit : (b r : ℕ) → b < 2 → r < 8 → b * 2 ^ r % 256 ≡ b * 2 ^ r
 shl_bit b r l h = shl_exact {a = b} 1 r 8 l (omega arith)
 
--- of a kind that is not 0
-pub kind_other : (v i n : ℕ) → (v ≡ 0 → ⊥) → of_kind v i n ≡ n
-kind_other zero i n h = absurd (h refl)
-kind_other (suc v) i n h = refl
-
 -- where the ones grow by x over w places, the bits of a kind grow by those of w places with x ones
-pub kind_add : (v : ℕ) (row : List ℕ) (a e w x : ℕ) → v < 2 → a + w ≡ e → x ≤ w → count_below 1 row e ≡ count_below 1 row a + x
-    → count_below v row e ≡ count_below v row a + of_kind v w x
-kind_add zero row a e w x l p h q = omega (arith, count_both row a, count_both row e)
-kind_add (suc zero) row a e w x l p h q = q
-kind_add (suc (suc v)) row a e w x l p h q = absurd (not-suc-le-zero (le_of_suc-le-suc (le_of_suc-le-suc l)))
-
-pub kind_next : (v : ℕ) (row : List ℕ) (k : ℕ) → v < 2 → get_or row k 0 < 256
-    → count_below v row (8 * (k + 1)) ≡ count_below v row (8 * k) + of_kind v 8 (ones (get_or row k 0))
-kind_next v row k l b =
-    kind_add v row (8 * k) (8 * (k + 1)) 8 (ones (get_or row k 0)) l (omega arith) (ones-le 8 (get_or row k 0) b) (ones_next row k b)
-
-pub kind_next_word : (v : ℕ) (row : List ℕ) (k : ℕ) → v < 2 → ((i : ℕ) → get_or row i 0 < 256)
-    → count_below v row (8 * (k + 8)) ≡ count_below v row (8 * k) + of_kind v 64 (ones (word_at row k))
-kind_next_word v row k l b =
-    kind_add v row (8 * k) (8 * (k + 8)) 64 (ones (word_at row k)) l (omega arith) (ones-le 64 (word_at row k) (word_lt row b k)) (ones_next_word row b k)
+pub kind_add : (v : Bool) (row : List ℕ) (a e w x : ℕ) → a + w ≡ e → x ≤ w → count_below 1 row e ≡ count_below 1 row a + x
+    → count_below (bit v) row e ≡ count_below (bit v) row a + of_kind v w x
+kind_add true row a e w x p h q = q
+kind_add false row a e w x p h q = omega (arith, count_both row a, count_both row e)

@@ -6,24 +6,17 @@ use mathlib.Core.List.{List}
 use Prim.Native.Nat.{ℕ, zero, suc, ◌+◌, ◌-◌, ◌*◌, ◌/◌, ◌%◌, ◌^◌, ◌≤◌, ◌<◌}
 use native.Mathlib.Nat.{add-zero, zero-mul, one-mul, pow-suc, add-div_right, add-mul-div_right, div-lt_iff_lt-mul, zero-div}
 use native.Mathlib.Decide.{ℕ_discrete}
-use native.Mathlib.Numerals.{one-add, add-one, add-two, add-three}
+use native.Mathlib.Numerals.{one-add}
 use native.Mathlib.Omega.{arith}
 use lib.Dec.{eqb}
-use lib.ListN.{length, get_or, set}
+use lib.ListN.{length, get_or}
 use lib.Pow.{pow_pos, pow-add, shr-shr, shr_lt}
-use lib.Seq.{sets-eq, get_or-set_same, get_or-set_other}
+use lib.Seq.{get_or-set_same, get_or-set_other}
 use borrow.Author.Tests.{eqb-true, eqb-false, eq-eqb}
-use Rattle.bits.specs.Bits.{bit_at, row_bytes, little_endian, unused_clear}
-use Rattle.bits.specs.Rows.{with_bit, with_number}
+use Rattle.bits.specs.Bits.{bit_at, row_bytes, unused_clear}
+use Rattle.bits.specs.Rows.{with_bit}
 use Rattle.bits.proofs.Tests.{le_or_lt}
 use Rattle.bits.proofs.Tally.{all-up_from, all-up_from-at}
-
--- ---- numbers of 32 bits
-
--- four stores, one a byte
-pub stores_number : (bytes : List ℕ) (k x : ℕ) → k + 4 ≤ length bytes
-    → set (set (set (set bytes k (x % 256)) (k + 1) (x / 256 % 256)) (k + 2) (x / 65536 % 256)) (k + 3) (x / 16777216 % 256) ≡ with_number bytes k x
-stores_number bytes k x fits = rw (add-one k, add-two k, add-three k) (sets-eq (little_endian x) bytes k fits)
 
 -- ---- a bit that is set
 

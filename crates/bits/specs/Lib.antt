@@ -2,3 +2,4 @@
 pub mod Sequences
 pub mod Bits
 pub mod Rows
+pub mod Row

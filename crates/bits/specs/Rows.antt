@@ -1,5 +1,5 @@
 -- What the contracts of the code cite beside the definitions of rows: counts below a place, what a row with samples is, what the stores write.
-use Rattle.std.specs.Prelude.{◌≡◌, true, List, ◌++◌, ℕ, zero, suc, ◌+◌, ◌-◌, ◌*◌, ◌/◌, ◌%◌, ◌^◌, ◌≤◌, ◌<◌, length, get_or, set, take, drop}
+use Rattle.std.specs.Prelude.{◌≡◌, Bool, true, false, List, ◌++◌, ℕ, ◌+◌, ◌-◌, ◌*◌, ◌/◌, ◌%◌, ◌^◌, ◌≤◌, ◌<◌, length, get_or, set, take, drop}
 use Rattle.bits.specs.Bits.{bits_of, row_bytes, sample_count, samples_right, little_endian, number_at}
 use Rattle.bits.specs.Sequences.{occurrences}
 
@@ -7,10 +7,10 @@ use Rattle.bits.specs.Sequences.{occurrences}
 unfoldable pub count_below : ℕ → List ℕ → ℕ → ℕ
 count_below v row i = occurrences v (bits_of i row)
 
--- of i bits with n ones, how many are v
-abbrev pub of_kind : ℕ → ℕ → ℕ → ℕ
-of_kind zero i n = i - n
-of_kind (suc v) i n = n
+-- of i bits with n ones, how many are 1 (true) or 0 (false)
+abbrev pub of_kind : Bool → ℕ → ℕ → ℕ
+of_kind true i n = n
+of_kind false i n = i - n
 
 -- eight bytes as a number, low byte first
 abbrev pub word_at : List ℕ → ℕ → ℕ

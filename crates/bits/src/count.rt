@@ -2,11 +2,11 @@
 ghost use Rattle.std.specs.Prelude.{◌≡◌, ◌+◌, ◌-◌, ◌*◌, ◌/◌, ◌%◌, ◌^◌, ◌≤◌, ◌<◌, length};
 ghost use Rattle.std.specs.Int.Count.{ones};
 ghost use Rattle.bits.specs.Bits.{bit_at};
-ghost use Rattle.bits.specs.Rows.{count_below};
+ghost use Rattle.bits.specs.Rows.{count_below, of_kind};
 
 use crate::numbers::word;
 
-// Bit i of the row.
+// Bit i of the row. A number and no bool: readers append it to a key (`2 * key + b`), as `put_bit` shifts the one that it stores.
 pub fn bit(row: &[u8], i: usize) -> u8
     requires { i < 8 * length row.now }
     ensures { (result ≡ bit_at row.now i) × (result < 2) }
@@ -14,16 +14,19 @@ pub fn bit(row: &[u8], i: usize) -> u8
     (row[i / 8] >> (i % 8)) % 2
 }
 
-pub fn byte_ones(x: u8) -> usize
-    ensures { (result ≡ ones x) × (result ≤ 8) }
+// Of i bits with n ones, how many are v.
+pub fn of_kind(v: bool, i: usize, n: usize) -> usize
+    requires { n ≤ i }
+    ensures { (result ≡ of_kind v i n) × (result ≤ i) }
 {
-    u8::count_ones(x) as usize
+    if v { n } else { i - n }
 }
 
+// The ones of a word; a byte is one with zeros above.
 pub fn word_ones(x: u64) -> usize
     ensures { (result ≡ ones x) × (result ≤ 64) }
 {
-    u64::count_ones(x) as usize
+    x.count_ones() as usize
 }
 
 // What m words from byte a on add to the ones below.
@@ -32,10 +35,8 @@ fn ones_in_words(row: &[u8], a: usize, m: usize) -> usize
     ensures { (count_below 1 row.now (8 * (a + 8 * m)) ≡ count_below 1 row.now (8 * a) + result) × (result ≤ 64 * m) }
 {
     let mut count: usize = 0;
-    let mut w = 0;
-    while w < m {
+    for w in 0..m {
         count += word_ones(word(row, a + 8 * w));
-        w += 1;
     }
     count
 }
@@ -46,10 +47,8 @@ fn ones_in_bytes(row: &[u8], a: usize, e: usize) -> usize
     ensures { (count_below 1 row.now (8 * e) ≡ count_below 1 row.now (8 * a) + result) × (result ≤ 8 * (e - a)) }
 {
     let mut count: usize = 0;
-    let mut k = a;
-    while k < e {
-        count += byte_ones(row[k]);
-        k += 1;
+    for k in a..e {
+        count += word_ones(u64::from(row[k]));
     }
     count
 }
@@ -67,7 +66,7 @@ fn low_ones(x: u8, r: usize) -> usize
     requires { r < 8 }
     ensures { (result ≡ ones (x % 2 ^ r)) × (result ≤ r) }
 {
-    byte_ones(x % (1 << r))
+    word_ones(u64::from(x % (1 << r)))
 }
 
 // What the bits below bit i in its own byte add to the ones below.

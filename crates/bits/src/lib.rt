@@ -4,6 +4,8 @@
 
 mod count;
 mod numbers;
+mod row;
 
-pub use count::{bit, byte_ones, ones_before, ones_in, tail_ones, word_ones};
+pub use count::{bit, of_kind, ones_before, ones_in, tail_ones, word_ones};
 pub use numbers::{number, put_number, word};
+pub use row::Row;

@@ -6,9 +6,8 @@ use Rattle.bit_rows.proofs.blocks.block_ones.Goals as goal
 
 pub returns-then-t-n : goal.returns-then-t-n
 returns-then-t-n c =
-    let s = c in
-    let row = s.args.row.now in
-    let t = s.args.t in
+    let t = c.args.t in
     let from : 8 * (64 * t) ≡ 512 * t = omega arith in
-    let to : 8 * (64 * t + 32 + 32) ≡ 512 * (t + 1) = omega arith in
-    ((λ _. omega (arith, ap (count_below 1 row) from, ap (count_below 1 row) to)), omega arith)
+    let to : 8 * (64 * t + 64) ≡ 512 * (t + 1) = omega arith in
+    let count = count_below 1 c.args.row.now in
+    ((λ _. omega (arith, ap count from, ap count to)), omega arith)

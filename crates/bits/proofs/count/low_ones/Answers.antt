@@ -12,6 +12,8 @@ nonzero_rem-x c = rw (shl_one c.args.r c.requires) (pow_pos c.args.r)
 
 pub returns : goal.returns
 returns c =
-    let s = c in
-    let e : c.byte_ones.result ≡ ones (s.args.x % 2 ^ s.args.r) = c.byte_ones.ensures.0 ∙ ap (λ (m : ℕ). ones (s.args.x % m)) (shl_one s.args.r s.requires) in
-    (e, omega (arith, ones-le s.args.r (s.args.x % 2 ^ s.args.r) (mod-lt s.args.x (pow_pos s.args.r))))
+    let x = c.args.x in
+    let r = c.args.r in
+    let e : c.word_ones.result ≡ ones (x % 2 ^ r)
+    = c.word_ones.ensures.0 ∙ ap ones c.from.ensures ∙ ap (λ (m : ℕ). ones (x % m)) (shl_one r c.requires) in
+    (e, omega (arith, ones-le r (x % 2 ^ r) (mod-lt x (pow_pos r))))

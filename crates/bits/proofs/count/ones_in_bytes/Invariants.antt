@@ -5,7 +5,4 @@ use Rattle.bits.proofs.count.ones_in_bytes.Given as goal
 
 abbrev pub invariant-loop-k : goal.invariant-loop-k
 invariant-loop-k l =
-    (l.a ≤ l.k) × (l.k ≤ l.e) × (count_below 1 l.row (8 * l.k) ≡ count_below 1 l.row (8 * l.a) + l.count) × (l.count ≤ 8 * (l.k - l.a))
-
-abbrev pub decreases-loop-k : goal.decreases-loop-k
-decreases-loop-k l = l.e - l.k
+    (count_below 1 l.row (8 * l.k) ≡ count_below 1 l.row (8 * l.a) + l.count) × (l.count ≤ 8 * (l.k - l.a))

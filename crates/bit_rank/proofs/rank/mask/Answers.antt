@@ -1,7 +1,0 @@
-use Prim.Native.Nat.{◌/◌, ◌%◌}
-use native.Mathlib.Omega.{arith}
-use Rattle.bit_rank.proofs.Near.{mask_kept}
-use Rattle.bit_rank.proofs.rank.mask.Goals as goal
-
-pub returns : goal.returns
-returns c = mask_kept (c.args.u / 4 % 2) (omega arith)
