@@ -57,6 +57,12 @@ next_bit h j v l =
     let e : h - 1 - j ≡ h - suc j = omega arith in
     ap (λ (n : ℕ). v / 2 ^ n % 2) e
 
+-- .. and as the bit of the node below the row above
+pub bit_above : (h k v : ℕ) → 0 < k → v / 2 ^ (h - 1 - (k - 1)) % 2 ≡ key h k v % 2
+bit_above h k v some =
+    let e : h - 1 - (k - 1) ≡ h - k = omega arith in
+    ap (λ (n : ℕ). v / 2 ^ n % 2) e
+
 pub bit-mul_le : (w x : ℕ) → w % 2 * x ≤ x
 bit-mul_le w x =
     let l : w % 2 ≤ 1 = omega (arith, mod-lt w {m = 2} (zero-lt-suc 1)) in

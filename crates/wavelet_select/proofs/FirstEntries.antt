@@ -20,16 +20,17 @@ use Rattle.model.proofs.Wavelet.Rank.{rank_walk_lem}
 use Rattle.model.proofs.Wavelet.Rows.{rows_of}
 use Rattle.model.proofs.Wavelet.Select.{select_walk_lem}
 use Rattle.wavelet.specs.declared.Levels.{Levels}
+use Rattle.wavelet.specs.declared.tree.Tree.{Tree}
 use Rattle.wavelet.specs.declared.Span.{Span}
 use Rattle.wavelet.specs.declared.Halves.{Halves}
 use Rattle.wavelet.specs.declared.Ranked.{Ranked}
 use Rattle.wavelet.specs.Levels.{entries_in, level_of}
-use Rattle.wavelet.specs.Spans.{span, Ordered, halves_of, half_of, ranked_of}
+use Rattle.wavelet.specs.Spans.{span, Ordered, halves_of, half_of, ranked_of, span_in}
 use Rattle.wavelet.proofs.Stored.{length-entries_in, within_entries_in}
 use Rattle.wavelet.proofs.Steps.{Level, level-of, rank_le, middle_by_ones, by_ones, halves_by_ones, ordered_half_of}
 use Rattle.wavelet_select.specs.Places.{up_from_half}
 use Rattle.wavelet_select.specs.First.{leaf_from, Has, first_from}
-use Rattle.wavelet_select.proofs.Offsets.{le_antisym, sums, same_place, half_le, up_after, up_inside, up_alone}
+use Rattle.wavelet_select.proofs.Offsets.{le_antisym, sums, same_place, half_le, up_after, up_inside, up_alone, ranked_span}
 
 -- ---- the walk: m more rows of an archive, the next of them row j
 
@@ -129,7 +130,7 @@ module _ (bytes : List ℕ) (t : Levels) (d : ℕ) where
         (sym (all_first (t.height - j) j (omega arith) s o (sym has.1 ∙ sym e) some), some)
 
     -- a node with others is no leaf
-    pub no_leaf : (s.hi - s.lo ≡ count → ⊥) → j < t.height
+    no_leaf : (s.hi - s.lo ≡ count → ⊥) → j < t.height
     no_leaf f = go (dec_le (suc j) t.height)
       where
         go : Dec (suc j ≤ t.height) → j < t.height
@@ -154,10 +155,10 @@ module _ (bytes : List ℕ) (t : Levels) (d : ℕ) where
     is_half : x ≡ half_of (halves_of (rows j) s) (d / 2 ^ (t.height - suc j) % 2)
     is_half = is ∙ ap (λ (m : ℕ). half_of (halves_of (rows j) s) (d / 2 ^ m % 2)) power
 
-    pub half_ordered : Ordered t.entries x
+    half_ordered : Ordered t.entries x
     half_ordered = subst (Ordered t.entries) (sym is) (ordered_half_of (rows j) t.entries v s o (d / 2 ^ (t.height - 1 - j) % 2))
 
-    pub half_has : (count : ℕ) → Has rows d (t.height - j) j s count → Has rows d (t.height - (j + 1)) (j + 1) x count
+    half_has : (count : ℕ) → Has rows d (t.height - j) j s count → Has rows d (t.height - (j + 1)) (j + 1) x count
     half_has count has =
         rw (add-one j) (subst (λ (y : Span). Has rows d (t.height - suc j) (suc j) y count) (sym is_half) (subst (λ (m : ℕ). Has rows d m j s count) rest has))
 
@@ -169,12 +170,12 @@ module _ (bytes : List ℕ) (t : Levels) (d : ℕ) where
           (λ i. up_from_half (rows j) s.lo (d / 2 ^ power i % 2) ((from ∙ ap (first_from rows d (t.height - suc j) (suc j)) is_half) i))
           ∙ ap (λ (m : ℕ). first_from rows d m j s) (sym rest)
 
-      pub first_alone : x.hi - x.lo ≡ s.hi - s.lo → (k ≡ first_from rows d (t.height - j) j s) × (k < s.hi - s.lo)
+      first_alone : x.hi - x.lo ≡ s.hi - s.lo → (k ≡ first_from rows d (t.height - j) j s) × (k < s.hi - s.lo)
       first_alone e =
           let less : k < s.hi - s.lo = omega arith in
           (up_alone (rows j) t.entries v s o (d / 2 ^ (t.height - 1 - j) % 2) k less (ap (λ (y : Span). y.hi - y.lo) (sym is) ∙ e) ∙ up_is, less)
 
-      pub first_up : (r : ℕ) → r ≡ up_from_half (rows j) s.lo (d / 2 ^ (t.height - 1 - j) % 2) k → (r ≡ first_from rows d (t.height - j) j s) × (r < s.hi - s.lo)
+      first_up : (r : ℕ) → r ≡ up_from_half (rows j) s.lo (d / 2 ^ (t.height - 1 - j) % 2) k → (r ≡ first_from rows d (t.height - j) j s) × (r < s.hi - s.lo)
       first_up r e =
           let less = up_inside (rows j) t.entries v s o (d / 2 ^ (t.height - 1 - j) % 2) k (subst (λ (y : Span). k < y.hi - y.lo) is inside) in
           (e ∙ up_is, subst (λ (y : ℕ). y < s.hi - s.lo) (sym e) less)
@@ -191,10 +192,10 @@ module _ (bytes : List ℕ) (t : Levels) (d : ℕ) where
     one_lo : two.one.lo ≡ right (rows j) s.start s.end s.lo
     one_lo = ap (λ (x : Halves). x.one.lo) (halved ∙ halves_by_ones (rows j) t.entries (level-of bytes t j l) s o)
 
-    pub middle_before : node.middle ≤ two.one.lo
+    middle_before : node.middle ≤ two.one.lo
     middle_before = rw (middle, one_lo) (left_le_right (rows j) s.start s.lo s.end)
 
-    pub before-range : node.before + (two.one.lo - node.middle) ≡ rank 1 (rows j) s.lo
+    before-range : node.before + (two.one.lo - node.middle) ≡ rank 1 (rows j) s.lo
     before-range =
         let before : node.before ≡ rank 1 (rows j) s.start = ap (λ (r : Ranked). r.before) ranked in
         rw (before, middle, one_lo)
@@ -241,3 +242,51 @@ module _ (bytes : List ℕ) (t : Levels) (d : ℕ) where
         ∙ (λ i. select_from rows d t.height 0 0 (sym (length-entries_in bytes t) i) (less i))
         ∙ select_walk_lem (rows_of t.height xs (within_entries_in bytes t)) d (suc (rank d xs a)) (omega arith) (omega (arith, counted, tally-take_le (eqb d) b xs))
         ∙ sym (first-place-select d xs a b order (omega (arith, length-entries_in bytes t)) (omega arith)))
+
+-- ---- by one row of the code: the node as it was ranked, its halves with the range in them, and the half x that the next bit leads to
+
+module _ (tree : Tree) (d count j : ℕ) (s : Span)
+    (has : (j ≤ tree.levels.height) × Ordered tree.levels.entries s × Has (level_of tree.bytes.now tree.levels) d (tree.levels.height - j) j s count)
+    (others : s.hi - s.lo ≡ count → ⊥) {node : Ranked} (r : node ≡ ranked_of (level_of tree.bytes.now tree.levels j) s.start s.end)
+    {two : Halves} (h : two ≡ halves_of (level_of tree.bytes.now tree.levels j) (span_in node s.lo s.hi))
+    {bit : ℕ} (p : bit ≡ d / 2 ^ (tree.levels.height - 1 - j) % 2) {x : Span} (w : x ≡ half_of two bit) where
+  abbrev bytes : List ℕ
+  bytes = tree.bytes.now
+
+  abbrev t : Levels
+  t = tree.levels
+
+  pub deeper : j < t.height
+  deeper = no_leaf bytes t d j has.0 s has.1 count has.2 others
+
+  halved : two ≡ halves_of (level_of bytes t j) s
+  halved = h ∙ ap (halves_of (level_of bytes t j)) (ranked_span (level_of bytes t j) s.start s.end s.lo s.hi node r)
+
+  is : x ≡ half_of (halves_of (level_of bytes t j) s) (d / 2 ^ (t.height - 1 - j) % 2)
+  is = w ∙ (λ i. half_of (halved i) (p i))
+
+  ordered : Ordered t.entries x
+  ordered = half_ordered bytes t d j deeper s has.1 x is
+
+  pub half_next : (j + 1 ≤ t.height) × Ordered t.entries x × Has (level_of bytes t) d (t.height - (j + 1)) (j + 1) x count
+  half_next = (let l = deeper in omega arith, ordered, half_has bytes t d j deeper s has.1 x is count has.2)
+
+  -- the ones before the range
+  pub before_lo : (node.before + (two.one.lo - node.middle) ≡ rank 1 (level_of bytes t j) s.lo) × (node.before + (two.one.lo - node.middle) ≤ s.lo)
+  before_lo =
+      let e = before-range bytes t d j deeper s has.1 node two r halved in
+      (e, omega (arith, e, rank_le (level_of bytes t j) s.lo))
+
+  -- what the half answers is k
+  module _ {k : ℕ} (f : (k ≡ first_from (level_of bytes t) d (t.height - (j + 1)) (j + 1) x) × (k < x.hi - x.lo)) where
+    pub alone : x.hi - x.lo ≡ s.hi - s.lo → (k ≡ first_from (level_of bytes t) d (t.height - j) j s) × (k < s.hi - s.lo)
+    alone = first_alone bytes t d j deeper s has.1 x is k f.0 f.1
+
+    pub up_first : {r : ℕ} → r ≡ up_from_half (level_of bytes t j) s.lo bit k → (r ≡ first_from (level_of bytes t) d (t.height - j) j s) × (r < s.hi - s.lo)
+    up_first {r} e = first_up bytes t d j deeper s has.1 x is k f.0 f.1 r (e ∙ ap (λ (b : ℕ). up_from_half (level_of bytes t j) s.lo b k) p)
+
+    pub up_places : (j < t.height) × (s.lo < s.hi) × (s.hi ≤ t.entries) × (k ≤ t.entries)
+    up_places =
+        let some = (up_first refl).1 in
+        let o = has.1 in
+        (deeper, omega (arith, some), omega (arith, o.to, o.inside), omega (arith, f.1, ordered.to, ordered.inside))

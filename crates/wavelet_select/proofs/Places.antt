@@ -1,5 +1,5 @@
 -- The steps of select: bounds of the places that are found on the way up, and the walk by one row.
-use Prim.Native.Nat.{ℕ, suc, ◌+◌, ◌-◌, ◌/◌, ◌%◌, ◌^◌, ◌≤◌, ◌<◌}
+use Prim.Native.Nat.{ℕ, suc, ◌+◌, ◌-◌, ◌/◌, ◌%◌, ◌^◌, ◌≤◌, ◌<◌, min}
 use native.Mathlib.Nat.{le_of_lt, sub-zero}
 use native.Mathlib.Numerals.{add-one}
 use native.Mathlib.Omega.{arith}
@@ -11,26 +11,38 @@ use lib.ListN.{length}
 use lib.Seq.{take-length}
 use lib.Dec.{eqb, ltb}
 use borrow.Author.Tests.{lt-ltb, le-ltb}
-use Rattle.bits.specs.Sequences.{occurrences, rank, select}
+use Rattle.bits.specs.Sequences.{bit, occurrences, rank, select}
 use Rattle.bits.proofs.Sequences.{select_ge, select_none}
 use Rattle.model.specs.Walk.{left, rank_from, select_from}
-use Rattle.model.proofs.Wavelet.Counts.{right_end, zeros-front}
+use Rattle.model.proofs.Wavelet.Counts.{right_end, zeros-front, left_le}
 use Rattle.model.proofs.Wavelet.Rank.{rank_walk_lem}
 use Rattle.model.proofs.Wavelet.Rows.{row-length, row_below, rows_of}
 use Rattle.model.proofs.Wavelet.Select.{select_walk_lem, select_inside}
 use Rattle.wavelet.specs.declared.Levels.{Levels}
+use Rattle.wavelet.specs.declared.Ranked.{Ranked}
+use Rattle.wavelet.specs.declared.tree.Tree.{Tree}
 use Rattle.wavelet.specs.Levels.{entries_in, level_of}
+use Rattle.wavelet.specs.Spans.{ranked_of}
 use Rattle.wavelet_select.specs.Places.{up_from_half, offset_from}
 use Rattle.wavelet.proofs.Stored.{length-entries_in, within_entries_in}
+use Rattle.wavelet.proofs.Steps.{level-of, rank_le, middle_by_ones}
 
 -- the bounds of the half that a bit leads to
-pub picked : (b : Bool) (s m e : ℕ) → s ≤ m → m ≤ e → (s ≤ cond b m s) × (cond b m s ≤ cond b e m) × (cond b e m ≤ e)
+picked : (b : Bool) (s m e : ℕ) → s ≤ m → m ≤ e → (s ≤ cond b m s) × (cond b m s ≤ cond b e m) × (cond b e m ≤ e)
 picked true s m e a c = omega arith
 picked false s m e a c = omega arith
 
 -- a half with a place x has a node with entries
-pub half_filled : {s from to e n x : ℕ} → s ≤ from → to ≤ e → e ≤ n → x < to - from → (s < e) × (x ≤ n)
+half_filled : {s from to e n x : ℕ} → s ≤ from → to ≤ e → e ≤ n → x < to - from → (s < e) × (x ≤ n)
 half_filled a b c l = omega arith
+
+-- the lesser of two
+min_cond : (x y : ℕ) → min x y ≡ cond (ltb x y) x y
+min_cond x y = go (dec_le (suc x) y)
+  where
+    go : Dec (suc x ≤ y) → min x y ≡ cond (ltb x y) x y
+    go (yes l) = rw (lt-ltb x y l) (omega arith)
+    go (no l) = rw (le-ltb x y (omega arith)) (omega arith)
 
 -- ---- places on the way up
 
@@ -38,19 +50,25 @@ module _ (bytes : List ℕ) (t : Levels) (j : ℕ) (l : j < t.height) where
   level-length : length (level_of bytes t j) ≡ t.entries
   level-length = row-length t.height j (entries_in bytes t) (le_of_lt l) (within_entries_in bytes t) ∙ length-entries_in bytes t
 
-  pub one-after : (s k : ℕ) → s ≤ t.entries → s ≤ select 1 (level_of bytes t j) (rank 1 (level_of bytes t j) s + k + 1)
-  one-after s k m =
-      let n : s ≤ length (level_of bytes t j) = rw level-length m in
-      select_ge 1 (level_of bytes t j) s (rank 1 (level_of bytes t j) s + k + 1) n (omega arith)
+  abbrev row : List ℕ
+  row = level_of bytes t j
 
-  pub zeros-before : (s k : ℕ) → s ≤ t.entries → rank 0 (level_of bytes t j) s < (s - rank 1 (level_of bytes t j) s) + k + 1
-  zeros-before s k m =
-      let z = zeros-front (level_of bytes t j) s (row_below t.height j (entries_in bytes t)) (rw level-length m) in
+  -- which bit of its kind stands k into the half of a bit, of a node from s on
+  abbrev nth : Bool → ℕ → ℕ → ℕ
+  nth b s k = cond b (rank 1 row s) (s - rank 1 row s) + k + 1
+
+  pub before_nth : (b : Bool) (s k : ℕ) → s ≤ t.entries → rank (bit b) row s < nth b s k
+  before_nth true s k m = omega arith
+  before_nth false s k m =
+      let z = zeros-front row s (row_below t.height j (entries_in bytes t)) (rw level-length m) in
       omega arith
 
-  pub zero-after : (s k : ℕ) → s ≤ t.entries → s ≤ select 0 (level_of bytes t j) ((s - rank 1 (level_of bytes t j) s) + k + 1)
-  zero-after s k m =
-      select_ge 0 (level_of bytes t j) s ((s - rank 1 (level_of bytes t j) s) + k + 1) (rw level-length m) (zeros-before s k m)
+  pub nth_after : (b : Bool) (s k : ℕ) → s ≤ t.entries → s ≤ select (bit b) row (nth b s k)
+  nth_after b s k m = select_ge (bit b) row s (nth b s k) (rw level-length m) (before_nth b s k m)
+
+  pub nth_up : (b : Bool) (s k : ℕ) → select (bit b) row (nth b s k) - s ≡ cond b (select 1 row (rank 1 row s + k + 1) - s) (select 0 row ((s - rank 1 row s) + k + 1) - s)
+  nth_up true s k = refl
+  nth_up false s k = refl
 
 -- ---- the walk
 
@@ -62,10 +80,10 @@ module _ (bytes : List ℕ) (t : Levels) (d j s e k : ℕ) where
   rows = level_of bytes t
 
   -- at the leaf
-  pub offset-end : j ≡ h → cond (ltb k (e - s)) k (e - s) ≡ offset_from rows d (h - j) j s e k
+  pub offset-end : j ≡ h → min k (e - s) ≡ offset_from rows d (h - j) j s e k
   offset-end p =
       let z : 0 ≡ h - j = omega arith in
-      ap (λ (m : ℕ). offset_from rows d m j s e k) z
+      min_cond k (e - s) ∙ ap (λ (m : ℕ). offset_from rows d m j s e k) z
 
   -- by one row, to the half that the next bit leads to
   module _ (l : j < h) (o : s ≤ e) (bit mid : ℕ) (p : bit ≡ d / 2 ^ (h - 1 - j) % 2) (q : mid ≡ left (rows j) s e) where
@@ -122,14 +140,14 @@ module _ (bytes : List ℕ) (t : Levels) (d j s e k : ℕ) where
           select_inside (rows_of h (entries_in bytes t) (within_entries_in bytes t)) d k (h - suc j) (suc j) (omega arith) from to order
           (omega (arith, length-entries_in bytes t))
 
-      pub offset_none : x ≡ to - from → e - s ≡ offset_from rows d (h - j) j s e k
+      offset_none : x ≡ to - from → e - s ≡ offset_from rows d (h - j) j s e k
       offset_none a = rw (← same_count) (go (dec_le (suc k) count))
         where
           go : Dec (k < count) → e - s ≡ cond (ltb k count) (select_from rows d (h - j) j s e k) (e - s)
           go (yes b) = absurd (let y : x ≡ offset = rw (lt-ltb k count b) at answer in omega (arith, inside b))
           go (no b) = rw (le-ltb k count (omega arith))
 
-      pub offset_some : (x ≡ to - from → ⊥) → (x < to - from) × (up_from_half (rows j) s bit x ≡ offset_from rows d (h - j) j s e k)
+      offset_some : (x ≡ to - from → ⊥) → (x < to - from) × (up_from_half (rows j) s bit x ≡ offset_from rows d (h - j) j s e k)
       offset_some a = rw (← same_count) (go (dec_le (suc k) count))
         where
           go : Dec (k < count) → (x < to - from) × (up_from_half (rows j) s bit x ≡ cond (ltb k count) (select_from rows d (h - j) j s e k) (e - s))
@@ -137,6 +155,44 @@ module _ (bytes : List ℕ) (t : Levels) (d j s e k : ℕ) where
               let y : x ≡ offset = rw (lt-ltb k count b) at answer in
               (omega (arith, inside b), rw (lt-ltb k count b) (ap (up_from_half (rows j) s bit) y ∙ same_place))
           go (no b) = absurd (a (rw (le-ltb k count (omega arith)) at answer))
+
+-- ---- by one row of the code: the node as it was ranked, and the half from `from` to `to`
+
+module _ (tree : Tree) (d j s e k : ℕ) (l : j < tree.levels.height) (o : s ≤ e) (b : e ≤ tree.levels.entries)
+    {node : Ranked} (r : node ≡ ranked_of (level_of tree.bytes.now tree.levels j) s e)
+    {bit : ℕ} (p : bit ≡ d / 2 ^ (tree.levels.height - 1 - j) % 2)
+    {from to : ℕ} (u : from ≡ cond (eqb bit 1) node.middle s) (w : to ≡ cond (eqb bit 1) e node.middle) where
+  middle : node.middle ≡ left (level_of tree.bytes.now tree.levels j) s e
+  middle =
+      ap (λ (x : Ranked). x.middle) r
+      ∙ middle_by_ones (level_of tree.bytes.now tree.levels j) tree.levels.entries (level-of tree.bytes.now tree.levels j l) s e o b
+
+  pub half_inside : (s ≤ from) × (from ≤ to) × (to ≤ e)
+  half_inside = rw (u, w) (picked (eqb bit 1) s node.middle e (omega (arith, middle)) (omega (arith, middle, left_le (level_of tree.bytes.now tree.levels j) s e o)))
+
+  module _ {x : ℕ} (f : x ≡ offset_from (level_of tree.bytes.now tree.levels) d (tree.levels.height - (j + 1)) (j + 1) from to k) where
+    within : to ≤ tree.levels.entries
+    within = omega (arith, half_inside)
+
+    pub none_below : x ≡ to - from → e - s ≡ offset_from (level_of tree.bytes.now tree.levels) d (tree.levels.height - j) j s e k
+    none_below = offset_none tree.bytes.now tree.levels d j s e k l o bit node.middle p middle from to u w half_inside.1 within x f
+
+    module _ (some : x ≡ to - from → ⊥) where
+      found : (x < to - from) × (up_from_half (level_of tree.bytes.now tree.levels j) s bit x ≡ offset_from (level_of tree.bytes.now tree.levels) d (tree.levels.height - j) j s e k)
+      found = offset_some tree.bytes.now tree.levels d j s e k l o bit node.middle p middle from to u w half_inside.1 within x f some
+
+      pub up_found : up_from_half (level_of tree.bytes.now tree.levels j) s bit x ≡ offset_from (level_of tree.bytes.now tree.levels) d (tree.levels.height - j) j s e k
+      up_found = found.1
+
+      pub filled : (s < e) × (x ≤ tree.levels.entries)
+      filled = half_filled half_inside.0 half_inside.2 b found.0
+
+-- the ones before a node that was ranked
+module _ {node : Ranked} (bits : List ℕ) (s e : ℕ) (r : node ≡ ranked_of bits s e) where
+  pub ones_before : (node.before ≡ rank 1 bits s) × (node.before ≤ s)
+  ones_before =
+      let before = ap (λ (x : Ranked). x.before) r in
+      (before, omega (arith, before, rank_le bits s))
 
 -- ---- from the root
 

@@ -1,37 +1,14 @@
 // Places of bits in one level of the tree, as bit_rows gives them.
 ghost use Rattle.std.specs.Prelude.{◌≡◌, ◌≤◌, ◌<◌};
-ghost use Rattle.bits.specs.Sequences.{rank, select};
-ghost use Rattle.wavelet.specs.Levels.{Stored, level_of};
+ghost use Rattle.bits.specs.Sequences.{bit, rank, select};
+ghost use Rattle.wavelet.specs.Levels.{level_of};
 
-use wavelet::{Levels, row_at, samples_at};
+use wavelet::Tree;
 
-// The place of the i-th one of level j, and of the i-th zero; fewer than i are before place a, and the places from a to e are looked at first.
-pub fn select_one(bytes: &[u8], t: Levels, j: usize, a: usize, e: usize, i: usize) -> usize
-    requires stored { Stored bytes.now t }
-    requires j_lt_height { (j < t.height) × (a < e) × (e ≤ t.entries) × (rank 1 (level_of bytes.now t j) a < i) }
-    ensures { result ≡ select 1 (level_of bytes.now t j) i }
+// The place of the i-th bit of level j that is v; fewer than i are before place a, and the places from a to e are looked at first.
+pub fn select_bit(tree: &Tree<'_>, j: usize, v: bool, a: usize, e: usize, i: usize) -> usize
+    requires j_lt_height { (j < tree.now.levels.height) × (a < e) × (e ≤ tree.now.levels.entries) × (rank (bit v) (level_of tree.now.bytes.now tree.now.levels j) a < i) }
+    ensures { result ≡ select (bit v) (level_of tree.now.bytes.now tree.now.levels j) i }
 {
-    bit_rows::select1_near(
-        samples_at(bytes, t, j),
-        row_at(bytes, t, j),
-        t.entries,
-        a,
-        e,
-        i,
-    )
-}
-
-pub fn select_zero(bytes: &[u8], t: Levels, j: usize, a: usize, e: usize, i: usize) -> usize
-    requires stored { Stored bytes.now t }
-    requires j_lt_height { (j < t.height) × (a < e) × (e ≤ t.entries) × (rank 0 (level_of bytes.now t j) a < i) }
-    ensures { result ≡ select 0 (level_of bytes.now t j) i }
-{
-    bit_rows::select0_near(
-        samples_at(bytes, t, j),
-        row_at(bytes, t, j),
-        t.entries,
-        a,
-        e,
-        i,
-    )
+    bit_rows::select_near(tree.row_at(j), v, a, e, i)
 }

@@ -4,6 +4,5 @@ use Rattle.wavelet_select.proofs.ascent.select.Goals as goal
 
 pub returns : goal.returns
 returns c =
-    let s = c in
-    let g = s.args in
-    c.offset_of.ensures ∙ select-root g.bytes.now g.t g.d g.i s.requires.d_bound.0 s.requires.d_bound.1
+    let tree = c.args.tree.now in
+    c.offset_of.ensures ∙ select-root tree.bytes.now tree.levels c.args.d c.args.i c.requires.d_bound.0 c.requires.d_bound.1

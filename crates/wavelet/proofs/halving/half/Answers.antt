@@ -1,8 +1,0 @@
-use borrow.Author.Tests.{eq-eqb, ne_eqb}
-use Rattle.wavelet.proofs.halving.half.Goals as goal
-
-pub returns-then-bit-eq1 : goal.returns-then-bit-eq1
-returns-then-bit-eq1 c = rw (eq-eqb _ _ c.if-bit-eq1.true)
-
-pub returns-else-bit-eq1 : goal.returns-else-bit-eq1
-returns-else-bit-eq1 c = rw (ne_eqb _ _ c.if-bit-eq1.false)
