@@ -2,3 +2,4 @@
 pub mod Stores
 pub mod Spreads
 pub mod Occurrences
+pub mod Passed

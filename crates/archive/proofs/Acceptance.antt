@@ -1,6 +1,6 @@
--- Refusals 1 to 3, what follows them, and what the check's answer says of the bytes.
+-- Refusals 1 to 3, and what follows them.
 use Prim.Native.Nat.{ℕ, ◌≤◌, ◌<◌}
-use mathlib.Core.Path.{◌≡◌, sym, ap, ◌∙◌, subst}
+use mathlib.Core.Path.{◌≡◌, sym, ap}
 use mathlib.Core.List.{List}
 use mathlib.Core.Bool.{true, false}
 use lib.ListN.{length}
@@ -11,10 +11,8 @@ use Rattle.model.specs.Format.{within_limits}
 use Rattle.model.specs.Opening.{sizes_at, entries_at, opening}
 use Rattle.wavelet.specs.Levels.{entries_in}
 use Rattle.archive.specs.declared.Layout.{Layout}
-use Rattle.archive.specs.declared.Opening.{Opening}
-use Rattle.archive.specs.declared.Opening.TheVariants.{Accepted, Refused}
-use Rattle.archive.specs.Layout.{layout_of, Opened}
-use Rattle.archive.specs.Opening.{opening_of, LaidOut, parts_outcome}
+use Rattle.archive.specs.Layout.{layout_of}
+use Rattle.archive.specs.Opening.{parts_outcome}
 
 module _ (bytes : List ℕ) where
   pub short_refused : length bytes < 40 → opening bytes ≡ refused 1
@@ -34,12 +32,3 @@ module _ (bytes : List ℕ) where
       → opening bytes ≡ parts_outcome bytes l
   unfolding opening entries_at entries_in
   opening_parts l long edition limits e = rw (le-ltb (length bytes) 40 long, edition, limits) (ap (parts_outcome bytes) (sym e))
-
-module _ (bytes : List ℕ) {r : Opening} (answer : (opening_of r ≡ opening bytes) × LaidOut r) where
-  -- an answer with a layout: the bytes are accepted, and this is their layout
-  pub opened_of : (l : Layout) → r ≡ Accepted l → Opened bytes l
-  opened_of l e = record { accepted = sym answer.0 ∙ ap opening_of e; shape = subst LaidOut e answer.1 }
-
-  -- an answer with a number: the bytes are refused under it
-  pub refused_of : (number : ℕ) → r ≡ Refused number → opening bytes ≡ refused number
-  refused_of number e = sym answer.0 ∙ ap opening_of e

@@ -1,17 +1,42 @@
 -- How large the parts of an archive within the limits can be.
-use Prim.Native.Nat.{ℕ, ◌+◌, ◌-◌, ◌*◌, ◌%◌, ◌^◌, ◌≤◌, ◌<◌}
+use Prim.Native.Nat.{ℕ, zero, suc, max, ◌+◌, ◌-◌, ◌*◌, ◌/◌, ◌%◌, ◌^◌, ◌≤◌, ◌<◌, zero-le}
 use mathlib.Core.Path.{◌≡◌, ap, ◌∙◌}
 use mathlib.Core.List.{[], ◌∷◌}
 use native.Mathlib.Omega.{arith}
-use native.Mathlib.Nat.{mul-le-mul}
-use lib.Pow.{pow_mono, shl_exact}
+use native.Mathlib.Nat.{mul-le-mul, two-pow-succ}
+use native.Mathlib.Decide.{dec_le}
+use lib.Pow.{pow_pos, pow_mono, pow-lt, shl_exact}
 use lib.Dec.{lit<}
+use Rattle.std.specs.Int.{IsPowerOfTwo}
 use Rattle.bits.specs.Bits.{row_bytes, sample_count}
 use Rattle.model.specs.Rows.{height}
 use Rattle.model.specs.Format.{header}
-use Rattle.model.proofs.Height.{height_le_12}
+use Rattle.model.proofs.Height.{height_le, height_le_12, lt_height}
 use Rattle.archive.specs.declared.Layout.{Layout}
 use Rattle.archive.specs.Layout.{sizes_in, Fitting}
+
+-- the height is the exponent of the next power of two
+
+exponent : (k h : ℕ) → 2 ^ h ≤ 2 ^ k → 2 ^ k < 2 * 2 ^ h → k ≡ h
+exponent k h below above = go (dec_le h k) (dec_le (suc h) k)
+  where
+    go : Dec (h ≤ k) → Dec (suc h ≤ k) → k ≡ h
+    go (no a) _ = let m = pow-lt {i = k} {j = h} (omega arith) in absurd (omega arith)
+    go (yes a) (yes b) = let m = pow_mono {i = suc h} {j = k} b in absurd (omega (arith, two-pow-succ h))
+    go (yes a) (no b) = omega arith
+
+height_least : (n h : ℕ) → 2 ^ h / 2 < max 1 n → h ≤ height n
+height_least n zero above = zero-le
+height_least n (suc g) above =
+    let half : 2 ^ suc g / 2 ≡ 2 ^ g = omega (arith, two-pow-succ g) in
+    lt_height n g (omega (arith, pow_pos g))
+
+pub height-power : (n p h : ℕ) → n ≤ 4096 → IsPowerOfTwo p → n ≤ p → p / 2 < max 1 n → 2 ^ h ≤ p → p < 2 * 2 ^ h → (h ≡ height n) × (h ≤ 12)
+height-power n p h few (k, e) low high below above =
+    let same = exponent k h (omega arith) (omega arith) in
+    let power : p ≡ 2 ^ h = e ∙ ap (λ (x : ℕ). 2 ^ x) same in
+    let most = height_least n h (rw power at high) in
+    (omega (arith, most, height_le n h (omega arith)), omega (arith, most, height_le n h (omega arith), height_le_12 n few))
 
 module _ (h n : ℕ) (low : h ≤ 12) (few : n ≤ 65535) where
   pub samples_bound : h * (4 * sample_count n) ≤ 12 * 512

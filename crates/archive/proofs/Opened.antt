@@ -16,6 +16,7 @@ use Rattle.model.specs.Queries.{term_start}
 use Rattle.model.proofs.Height.{le_pow-height}
 use Rattle.model.proofs.Format.Valid.{Limits}
 use Rattle.model.proofs.Format.WriteBack.{Accepted, accepted}
+use Rattle.wavelet.specs.declared.Levels.{Levels}
 use Rattle.wavelet.specs.Levels.{entries_in, Stored}
 use Rattle.wavelet.proofs.Stored.{length-entries_in}
 use Rattle.archive.specs.declared.Layout.{Layout}
@@ -101,3 +102,8 @@ module _ (bytes : List ℕ) (l : Layout) (o : Opened bytes l) where
 -- an archive, and the layout that its header gives
 pub archive_opened : (bytes : List ℕ) → IsArchive bytes → Opened bytes (layout_of (sizes_at bytes))
 archive_opened bytes e = record { accepted = e; shape = refl }
+
+-- the entries of its tree, as `tree` answers it
+pub tree_entries : (bytes : List ℕ) (l : Layout) → Opened bytes l → {others : List ℕ} {t : Levels} → (others ≡ bytes) × (t ≡ l.levels)
+    → entries_in others t ≡ (contents bytes).entries
+tree_entries bytes l o (e, f) = (λ i. entries_in (e i) (f i)) ∙ entries-are bytes l o

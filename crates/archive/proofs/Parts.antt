@@ -1,7 +1,8 @@
 -- The parts that the check on opening looks at, one at a time, and where they lie.
-use Prim.Native.Nat.{ℕ, suc, ◌+◌, ◌-◌, ◌*◌, ◌≤◌, ◌<◌}
+use Rattle.std.specs.List.{list_all, range_with_len}
+use Prim.Native.Nat.{ℕ, zero, suc, ◌+◌, ◌-◌, ◌*◌, ◌≤◌, ◌<◌}
 use native.Mathlib.Omega.{arith}
-use native.Mathlib.Nat.{suc-mul, mul-le-mul_right, add-sub_cancel_left, sub-eq-zero_of_le}
+use native.Mathlib.Nat.{add-sub_cancel_left}
 use native.Mathlib.Numerals.{add-one}
 use mathlib.Core.Path.{◌≡◌, refl, sym, ap, ◌∙◌}
 use mathlib.Core.Logic.{◌⊎◌, inl, inr}
@@ -12,7 +13,7 @@ use lib.Seq.{take_all}
 use lib.Dec.{leb, ltb, eqb}
 use borrow.Author.Tests.{eq-eqb, ne_eqb, ltb-true, ltb-false}
 use Rattle.bits.specs.Sequences.{tally, all, up_from, below}
-use Rattle.bits.specs.Bits.{number_at, sample_count, row_bytes}
+use Rattle.bits.specs.Bits.{number_at, row_bytes}
 use Rattle.bits.proofs.Tests.{look}
 use Rattle.bits.proofs.Tally.{tally_le_length, all-up_from-at}
 use Rattle.model.specs.Lists.{any, part}
@@ -50,7 +51,7 @@ pairs-apart bytes l f =
     let b = bounded l f in
     rw (b.rows_is, add-sub_cancel_left, b.height_is, b.samples_is, ← by_pairs)
 
--- ---- the term table and the rows, from number t on
+-- ---- the term table from term t on, and the rows
 
 pub table_next : (bytes : List ℕ) (n start t w : ℕ) → t < w
     → table_holds bytes n start (up_from t (w - t))
@@ -59,32 +60,12 @@ table_next bytes n start t w l =
     let e : w - t ≡ suc (w - suc t) = omega arith in
     rw (add-one t, e)
 
-pub table_end : (bytes : List ℕ) (n start t w : ℕ) → w ≤ t → table_holds bytes n start (up_from t (w - t)) ≡ eqb start n
-table_end bytes n start t w l = rw (sub-eq-zero_of_le l)
-
-pub all_next : (p : ℕ → Bool) (j h : ℕ) → j < h → all p (up_from j (h - j)) ≡ (p j && all p (up_from (j + 1) (h - (j + 1))))
-all_next p j h l =
-    let e : h - j ≡ suc (h - suc j) = omega arith in
-    rw (add-one j, e)
-
-pub all_end : (p : ℕ → Bool) (j h : ℕ) → h ≤ j → all p (up_from j (h - j)) ≡ true
-all_end p j h l = rw (sub-eq-zero_of_le l)
+-- a chain over a range of numbers asks each of them
+pub all-range : (p : ℕ → Bool) (a n : ℕ) → list_all p (range_with_len a n) ≡ all p (up_from a n)
+all-range p a zero = refl
+all-range p a (suc n) = rw (add-one a) (ap (λ (b : Bool). p a && b) (all-range p (suc a) n))
 
 -- ---- where the rows lie
-
-module _ (bytes : List ℕ) (t : Levels) (p : Placed bytes t) (j : ℕ) (l : j < t.height) where
-  -- the end of chunk j of as many chunks of w bytes as there are levels
-  chunk_end : (w : ℕ) → j * w + w ≤ t.height * w
-  chunk_end w =
-      let e = suc-mul j w in
-      let m : suc j * w ≤ t.height * w = mul-le-mul_right w l in
-      omega arith
-
-  pub samples_end : t.samples + j * (4 * sample_count t.entries) + 4 * sample_count t.entries ≤ length bytes
-  samples_end = omega (arith, chunk_end (4 * sample_count t.entries), p.samples_fit)
-
-  pub row-end : t.rows + j * row_bytes t.entries + row_bytes t.entries ≤ length bytes
-  row-end = omega (arith, chunk_end (row_bytes t.entries), p.rows_fit)
 
 pub laid_placed : (bytes : List ℕ) (l : Layout) → Laid bytes l → Placed bytes l.levels
 laid_placed bytes l laid =

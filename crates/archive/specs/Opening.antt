@@ -1,27 +1,15 @@
--- The answers of the check on opening, and what its parts take for granted.
+-- What the parts of the check on opening come to, and what they take for granted.
 use Rattle.std.specs.Prelude.{ℕ, ◌+◌, ◌*◌, ◌^◌, ◌≤◌, ◌<◌, ◌≡◌, List, Bool, not, length, leb, eqb}
 use Rattle.bits.specs.Sequences.{all, below}
 use Rattle.bits.specs.Bits.{row_bytes, sample_count, samples_right, unused_clear}
-use Rattle.model.specs.Outcome.{Outcome, answered, refused, refuse}
+use Rattle.model.specs.Outcome.{Outcome, answered, refuse}
 use Rattle.model.specs.Lists.{any}
 use Rattle.model.specs.Format.{Sizes, archive_length}
 use Rattle.model.specs.Opening.{pairs_hold, table_holds}
 use Rattle.wavelet.specs.declared.Levels.{Levels}
 use Rattle.wavelet.specs.Levels.{samples_in, row_in, entries_in}
 use Rattle.archive.specs.declared.Layout.{Layout}
-use Rattle.archive.specs.declared.Opening.{Opening}
-use Rattle.archive.specs.declared.Opening.TheVariants.{Accepted, Refused}
-use Rattle.archive.specs.Layout.{sizes_in, layout_of, Fitting}
-
--- document 01's number and values for each case of the answer: n, N and W, or the number of the refusal
-abbrev pub opening_of : Opening → Outcome Sizes
-opening_of (Accepted l) = answered (sizes_in l)
-opening_of (Refused number) = refused number
-
--- a layout that is answered is the one that follows from n, N and W
-abbrev pub LaidOut : Opening → Type 0
-LaidOut (Accepted l) = l ≡ layout_of (sizes_in l)
-LaidOut (Refused number) = Unit {0}
+use Rattle.archive.specs.Layout.{sizes_in, Fitting}
 
 -- the bytes have the length that a layout within the limits gives
 pub record Laid (bytes : List ℕ) (l : Layout) : Type 0 where

@@ -1,180 +1,139 @@
 // The check on opening, and what it looks at, part by part.
-ghost use Rattle.std.specs.Prelude.{◌≡◌, not, ◌&&◌, ◌+◌, ◌≤◌, ◌<◌, length, leb, eqb};
-ghost use Rattle.bits.specs.Sequences.{all, below};
+ghost use Rattle.std.specs.Prelude.{◌≡◌, not, ◌&&◌, ◌+◌, ◌≤◌, ◌<◌, length, leb, eqb, IfOk};
+ghost use Rattle.bits.specs.Sequences.{below};
 ghost use Rattle.bits.specs.Bits.{number_at};
-ghost use Rattle.wavelet.specs.Levels.{Stored, entries_in};
+ghost use Rattle.wavelet.specs.Levels.{entries_in};
 ghost use Rattle.model.specs.Lists.{any};
 ghost use Rattle.model.specs.Opening.{pairs_hold, table_holds, opening};
 ghost use Rattle.archive.specs.Layout.{sizes_in, Fitting};
-ghost use Rattle.archive.specs.Opening.{opening_of, LaidOut, Laid, Placed, sampled_at, clear_at, levels_outcome, parts_outcome};
+ghost use Rattle.refusals.specs.Refusals.{outcome_by};
+ghost use Rattle.archive.specs.Opening.{Laid, levels_outcome, parts_outcome};
 
 use crate::offsets::{archive_length, layout_of, within_limits};
-use crate::{Layout, Opening};
+use crate::rows::Rows;
+use crate::{Archive, Layout};
 use bit_rows::number;
-use wavelet::Levels;
+use refusals::Refusal;
+use wavelet::Tree;
 
-// Whether the pair of numbers at an offset is the given one.
-fn pair_is(archive: &[u8], at: usize, offset: usize, size: usize) -> bool
-    requires { at + 8 ≤ length archive.now }
-    ensures { result ≡ (eqb (number_at archive.now at) offset && eqb (number_at archive.now (at + 4)) size) }
-{
-    if number(archive, at) != offset {
-        return false;
-    }
-    number(archive, at + 4) == size
+// Bytes with the layout that their header gives. Whether the rest is as the layout has it is not known.
+#[derive(Clone, Copy)]
+struct Headed<'a> {
+    bytes: &'a [u8],
+    layout: Layout,
+    ghost long: { 40 ≤ length bytes.now },
+    ghost fitting: { Fitting layout },
 }
 
-// Refusal 4: the three pairs are those of the layout.
-fn pairs_hold(archive: &[u8], l: Layout) -> bool
-    requires in_bounds { 40 ≤ length archive.now }
-    requires fitting { Fitting l }
-    ensures { result ≡ pairs_hold archive.now (sizes_in l) }
-{
-    let t = l.levels;
-    if !pair_is(archive, 16, 40, 8 * l.terms) {
-        return false;
+impl<'a> Headed<'a> {
+    // Whether the pair of numbers at an offset is the given one.
+    fn pair_is(&self, at: usize, offset: usize, size: usize) -> bool
+        requires { at ≤ 32 }
+        ensures { result ≡ (eqb (number_at self.now.bytes.now at) offset && eqb (number_at self.now.bytes.now (at + 4)) size) }
+    {
+        number(self.bytes, at) == offset && number(self.bytes, at + 4) == size
     }
-    if !pair_is(archive, 24, t.samples, t.rows - t.samples) {
-        return false;
-    }
-    pair_is(archive, 32, t.rows, t.height * ((t.entries + 7) / 8))
-}
 
-// Refusal 6: each term starts where the one before ends, and the last ends at n.
-fn table_holds(archive: &[u8], l: Layout) -> bool
-    requires { Laid archive.now l }
-    ensures { result ≡ table_holds archive.now l.levels.entries 0 (below l.terms) }
-{
-    let mut start: usize = 0;
-    let mut t: usize = 0;
-    while t < l.terms {
-        let at = 40 + 8 * t;
-        if number(archive, at) != start {
-            return false;
+    // Refusal 4: the three pairs are those of the layout.
+    fn pairs_hold(&self) -> bool
+        ensures { result ≡ pairs_hold self.now.bytes.now (sizes_in self.now.layout) }
+    {
+        let t = self.layout.levels;
+        self.pair_is(16, 40, 8 * self.layout.terms)
+            && self.pair_is(24, t.samples, t.rows - t.samples)
+            && self.pair_is(32, t.rows, t.height * ((t.entries + 7) / 8))
+    }
+
+    // Refusal 6: each term starts where the one before ends, and the last ends at n.
+    fn table_holds(&self) -> bool
+        requires { Laid self.now.bytes.now self.now.layout }
+        ensures { result ≡ table_holds self.now.bytes.now self.now.layout.levels.entries 0 (below self.now.layout.terms) }
+    {
+        let mut start = 0;
+        for t in 0..self.layout.terms {
+            let at = 40 + 8 * t;
+            if number(self.bytes, at) != start {
+                return false;
+            }
+            start += number(self.bytes, at + 4);
         }
-        start += number(archive, at + 4);
-        t += 1;
+        start == self.layout.levels.entries
     }
-    start == l.levels.entries
-}
 
-// Whether the samples of row j are right.
-fn row_sampled(archive: &[u8], t: Levels, j: usize) -> bool
-    requires placed { Placed archive.now t }
-    requires j_lt_height { j < t.height }
-    ensures { result ≡ sampled_at archive.now t j }
-{
-    let w = 4 * ((t.entries + 511) / 512);
-    let a = t.samples + j * w;
-    let e = a + w;
-    let v = (t.entries + 7) / 8;
-    let b = t.rows + j * v;
-    let f = b + v;
-    bit_rows::samples_right(&archive[a..e], &archive[b..f], t.entries)
-}
-
-// Refusal 7: the samples of each row are right.
-fn samples_hold(archive: &[u8], t: Levels) -> bool
-    requires { Placed archive.now t }
-    ensures { result ≡ all (sampled_at archive.now t) (below t.height) }
-{
-    let mut j: usize = 0;
-    while j < t.height {
-        if !row_sampled(archive, t, j) {
-            return false;
+    // Refusals 7 to 9.
+    fn check_levels(&self) -> Result<(), Refusal>
+        requires { Laid self.now.bytes.now self.now.layout }
+        ensures { outcome_by (λ _. sizes_in self.now.layout) result ≡ levels_outcome self.now.bytes.now self.now.layout }
+    {
+        let rows = Rows {
+            bytes: self.bytes,
+            levels: self.layout.levels,
+        };
+        if !rows.samples_hold() {
+            return Err(Refusal::Sample);
         }
-        j += 1;
-    }
-    true
-}
-
-// Whether the unused bits of row j are 0.
-fn row_clear(archive: &[u8], t: Levels, j: usize) -> bool
-    requires placed { Placed archive.now t }
-    requires j_lt_height { j < t.height }
-    ensures { result ≡ clear_at archive.now t j }
-{
-    let w = (t.entries + 7) / 8;
-    let a = t.rows + j * w;
-    let e = a + w;
-    bit_rows::unused_clear(&archive[a..e], t.entries)
-}
-
-// Refusal 8: the unused bits of each row are 0.
-fn unused_hold(archive: &[u8], t: Levels) -> bool
-    requires { Placed archive.now t }
-    ensures { result ≡ all (clear_at archive.now t) (below t.height) }
-{
-    let mut i: usize = 0;
-    while i < t.height {
-        if !row_clear(archive, t, i) {
-            return false;
+        if !rows.unused_hold() {
+            return Err(Refusal::UnusedBit);
         }
-        i += 1;
+        let tree = Tree {
+            bytes: self.bytes,
+            levels: self.layout.levels,
+        };
+        if !entries_hold(&tree, self.layout.documents) {
+            return Err(Refusal::Entry);
+        }
+        Ok(())
     }
-    true
+
+    // Refusals 4 to 9.
+    fn check_parts(&self) -> Result<(), Refusal>
+        ensures { outcome_by (λ _. sizes_in self.now.layout) result ≡ parts_outcome self.now.bytes.now self.now.layout }
+    {
+        if !self.pairs_hold() {
+            return Err(Refusal::Pairs);
+        }
+        if self.bytes.len() != archive_length(self.layout) {
+            return Err(Refusal::Length);
+        }
+        if !self.table_holds() {
+            return Err(Refusal::TermTable);
+        }
+        self.check_levels()
+    }
 }
 
 // Refusal 9: no entry is N or more. One descent counts the entries below N.
-fn entries_hold(archive: &[u8], t: Levels, documents: usize) -> bool
-    requires { Stored archive.now t }
-    ensures { result ≡ not (any (leb documents) (entries_in archive.now t)) }
+fn entries_hold(tree: &Tree<'_>, documents: usize) -> bool
+    ensures { result ≡ not (any (leb documents) (entries_in tree.now.bytes.now tree.now.levels)) }
 {
-    let n = t.entries;
-    wavelet::count_below(archive, t, 0, n, documents) == n
+    let n = tree.levels.entries;
+    tree.count_below(0, n, documents) == n
 }
 
-// Refusals 7 to 9, or the layout.
-fn check_levels(archive: &[u8], l: Layout) -> Opening
-    requires { Laid archive.now l }
-    ensures { (opening_of result ≡ levels_outcome archive.now l) × LaidOut result }
-{
-    let t = l.levels;
-    if !samples_hold(archive, t) {
-        return Opening::Refused(7);
-    }
-    if !unused_hold(archive, t) {
-        return Opening::Refused(8);
-    }
-    if !entries_hold(archive, t, l.documents) {
-        return Opening::Refused(9);
-    }
-    Opening::Accepted(l)
-}
-
-// Refusals 4 to 9, or the layout.
-fn check_parts(archive: &[u8], l: Layout) -> Opening
-    requires in_bounds { 40 ≤ length archive.now }
-    requires fitting { Fitting l }
-    ensures { (opening_of result ≡ parts_outcome archive.now l) × LaidOut result }
-{
-    if !pairs_hold(archive, l) {
-        return Opening::Refused(4);
-    }
-    if archive.len() != archive_length(l) {
-        return Opening::Refused(5);
-    }
-    if !table_holds(archive, l) {
-        return Opening::Refused(6);
-    }
-    check_levels(archive, l)
-}
-
-// The check on opening: the layout of an accepted archive, or the lowest refusal that applies.
-pub fn open(archive: &[u8]) -> Opening
-    ensures { (opening_of result ≡ opening archive.now) × LaidOut result }
+// The check on opening: an accepted archive, or the lowest refusal that applies.
+pub fn open(archive: &[u8]) -> Result<Archive<'_>, Refusal>
+    ensures outcome { outcome_by (λ a. sizes_in a.layout) result ≡ opening archive.now }
+    ensures same { IfOk result (λ a. a.bytes.now ≡ archive.now) }
 {
     if archive.len() < 40 {
-        return Opening::Refused(1);
+        return Err(Refusal::TooShort);
     }
     if number(archive, 0) != 1 {
-        return Opening::Refused(2);
+        return Err(Refusal::Edition);
     }
     let n = number(archive, 4);
     let documents = number(archive, 8);
     let terms = number(archive, 12);
     if !within_limits(n, documents, terms) {
-        return Opening::Refused(3);
+        return Err(Refusal::Limits);
     }
-    check_parts(archive, layout_of(n, documents, terms))
+    let headed = Headed {
+        bytes: archive,
+        layout: layout_of(n, documents, terms),
+    };
+    headed.check_parts()?;
+    Ok(Archive {
+        bytes: archive,
+        layout: headed.layout,
+    })
 }

@@ -2,10 +2,9 @@
 ghost use Rattle.std.specs.Prelude.{◌≡◌, ◌^◌, ◌≤◌, ◌<◌};
 ghost use Rattle.model.specs.Rows.{height};
 ghost use Rattle.model.specs.Format.{within_limits, archive_length};
-ghost use Rattle.archive.specs.Layout.{sizes_in, layout_of, Fitting, IsArchive, Opened};
+ghost use Rattle.archive.specs.Layout.{sizes_in, layout_of, Fitting};
 
 use crate::Layout;
-use bit_rows::number;
 use wavelet::Levels;
 
 // h: the smallest number with 2 ^ h at least N.
@@ -13,32 +12,14 @@ pub fn height_of(documents: usize) -> usize
     requires { documents ≤ 4096 }
     ensures { (result ≡ height documents) × (result ≤ 12) }
 {
-    let mut power: usize = 1;
-    let mut h: usize = 0;
-    while power < documents {
-        power = 2 * power;
-        h += 1;
-    }
-    h
+    documents.next_power_of_two().ilog2() as usize
 }
 
 // Whether n, N and W are within their limits.
 pub fn within_limits(n: usize, documents: usize, terms: usize) -> bool
     ensures { result ≡ within_limits (record { entries = n; documents = documents; terms = terms }) }
 {
-    if 65535 < n {
-        return false;
-    }
-    if documents < 1 {
-        return false;
-    }
-    if 4096 < documents {
-        return false;
-    }
-    if terms < 1 {
-        return false;
-    }
-    terms <= 4096
+    n <= 65535 && 1 <= documents && documents <= 4096 && 1 <= terms && terms <= 4096
 }
 
 // The layout of n entries, N documents and W terms.
@@ -59,14 +40,6 @@ pub fn layout_of(n: usize, documents: usize, terms: usize) -> Layout
             rows,
         },
     }
-}
-
-// The layout of an archive that was opened before, from its header.
-pub fn layout_in(archive: &[u8]) -> Layout
-    requires { IsArchive archive.now }
-    ensures { Opened archive.now result }
-{
-    layout_of(number(archive, 4), number(archive, 8), number(archive, 12))
 }
 
 // The length of the archive in bytes.

@@ -1,21 +1,20 @@
 -- Ranges as the code holds them: the two ends, or the refusal. Document 01, "The shelf", and its refusal 11.
-use Rattle.std.specs.Prelude.{ℕ, ◌≤◌, List, ◌||◌, ltb}
+use Rattle.std.specs.Prelude.{ℕ, ◌≤◌, List, ◌||◌, Result, IfOk, ltb}
 use Rattle.model.specs.Lists.{part}
-use Rattle.model.specs.Outcome.{Outcome, answered, refused, refuse, and_then}
+use Rattle.model.specs.Outcome.{Outcome, answered, refuse, and_then}
 use Rattle.model.specs.Format.{Library}
 use Rattle.model.specs.Queries.{Bounds}
-use Rattle.archive_ranges.specs.declared.Range.{Range}
-use Rattle.archive_ranges.specs.declared.Range.TheVariants.{Entries, Refused}
+use Rattle.refusals.specs.declared.Refusal.{Refusal}
+use Rattle.refusals.specs.Refusals.{outcome_by}
+use Rattle.archive_ranges.specs.declared.Entries.{Entries}
 
--- document 01's number and values for each case of a range
-abbrev pub bounds_in : Range → Outcome Bounds
-bounds_in (Entries a b) = answered (record { from = a; to = b })
-bounds_in (Refused number) = refused number
+-- document 01's ends of a range, or the number of its refusal
+abbrev pub bounds_in : Result Entries Refusal → Outcome Bounds
+bounds_in = outcome_by (λ r. record { from = r.from; to = r.to })
 
 -- a range that is not refused lies inside n entries
-abbrev pub Inside : ℕ → Range → Type 0
-Inside n (Entries a b) = (a ≤ b) × (b ≤ n)
-Inside n (Refused number) = Unit {0}
+abbrev pub Inside : ℕ → Result Entries Refusal → Type 0
+Inside n range = IfOk range (λ r. (r.from ≤ r.to) × (r.to ≤ n))
 
 -- the ends of the entries a up to but without b, of n entries
 abbrev pub entry_bounds : ℕ → ℕ → ℕ → Outcome Bounds

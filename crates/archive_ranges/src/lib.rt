@@ -7,9 +7,9 @@ mod terms;
 pub use ranges::{entry_range, term_range};
 pub use terms::term_start;
 
-// A range: the entries from one place up to but without another, or the number of a refusal.
-#[derive(Clone, Copy)]
-pub enum Range {
-    Entries { from: u32, to: u32 },
-    Refused(u32),
+// A range: the entries from one place up to but without another.
+#[derive(Clone, Copy, Debug, PartialEq, Eq)]
+pub struct Entries {
+    pub from: u32,
+    pub to: u32,
 }

@@ -12,7 +12,6 @@ use Rattle.archive.specs.declared.Layout.{Layout}
 use Rattle.archive.specs.Layout.{Opened}
 use Rattle.archive.proofs.Bounds.{bounded}
 use Rattle.archive.proofs.Opened.{sizes-are, fitting, stored}
-use Rattle.reader.specs.Reading.{Readable}
 
 -- a front part that comes back
 pub overwritten : (new old part : List ℕ) (n : ℕ) → part ≡ new → length part ≡ n → part ++ drop n old ≡ overwrite new old
@@ -20,18 +19,6 @@ overwritten new old part n e size =
     ap (λ (k : ℕ). part ++ drop k old) (sym size) ∙ ap (λ (p : List ℕ). p ++ drop (length p) old) e
 
 module _ (bytes : List ℕ) (l : Layout) (o : Opened bytes l) where
-  pub opened_readable : Readable bytes l.levels
-  opened_readable =
-      let f = fitting bytes l o in
-      let b = bounded l f in
-      let terms = f.terms in
-      record {
-        few = f.entries;
-        short = b.low;
-        near = omega (arith, b.rows_is, b.samples_is, b.samples_few);
-        fits = (stored bytes l o).rows_fit;
-      }
-
   pub opened_table : 40 + 8 * l.terms ≤ length bytes
   opened_table = omega (arith, (bounded l (fitting bytes l o)).samples_is, (stored bytes l o).samples_fit)
 

@@ -17,10 +17,12 @@ use Rattle.model.proofs.Format.Valid.{valid_archive}
 use Rattle.model.proofs.Format.Theorem.{read-written, write_read, library_unique}
 use Rattle.model.specs.Demand2.{AnswersOver}
 use Rattle.model.proofs.Questions.{archive_answers}
-use Rattle.archive.specs.declared.Opening.{Opening}
-use Rattle.archive.specs.declared.Opening.TheVariants.{Accepted, Refused}
+use Rattle.std.specs.Prelude.{Result, Ok, Err}
+use Rattle.std.specs.Result.{IsOkAnd}
+use Rattle.refusals.specs.declared.Refusal.{Refusal}
+use Rattle.refusals.specs.Refusals.{outcome_by}
+use Rattle.archive.specs.declared.handle.Archive.{Archive}
 use Rattle.archive.specs.Layout.{sizes_in, layout_of}
-use Rattle.archive.specs.Opening.{opening_of, LaidOut}
 
 -- ---- what an answer of the writer says
 
@@ -90,13 +92,14 @@ was_read bytes entries lengths s entries' lengths' p = go (opening bytes) refl p
 
 module _ (lib : Library) (target after : List ℕ) (n : ℕ)
     (answer : ◌≡◌ {A = WriteResult} (record { outcome = answered n; target = after }) (write_result lib target)) where
-  -- the check on opening answers the library's n, N and W
-  pub written-opened : (r : Opening) → (opening_of r ≡ opening (take n after)) × LaidOut r → r ≡ Accepted (layout_of (sizes_of lib))
-  written-opened r (same, shape) = go r shape (same ∙ (read-written lib (take n after) (wrote lib target n after answer).archive).0)
+  -- the check on opening accepts the bytes, with the library's n, N and W
+  pub written-opened : (r : Result Archive Refusal) → outcome_by (λ a. sizes_in a.layout) r ≡ opening (take n after)
+      → IsOkAnd r (λ a. a.layout ≡ layout_of (sizes_of lib))
+  written-opened r same = go r (same ∙ (read-written lib (take n after) (wrote lib target n after answer).archive).0)
     where
-      go : (r : Opening) → LaidOut r → opening_of r ≡ answered (sizes_of lib) → r ≡ Accepted (layout_of (sizes_of lib))
-      go (Accepted l) shape e = let sizes : sizes_in l ≡ sizes_of lib = cc in ap Accepted (shape ∙ ap layout_of sizes)
-      go (Refused number) shape e = let z : ◌≡◌ {A = ℕ} 0 1 = cc in absurd (omega arith)
+      go : (r : Result Archive Refusal) → outcome_by (λ a. sizes_in a.layout) r ≡ answered (sizes_of lib) → IsOkAnd r (λ a. a.layout ≡ layout_of (sizes_of lib))
+      go (Ok a) e = let sizes : sizes_in a.layout ≡ sizes_of lib = cc in a.opened.shape ∙ ap layout_of sizes
+      go (Err refusal) e = let z : ◌≡◌ {A = ℕ} 0 1 = cc in absurd (omega arith)
 
   -- the reader answers n, N and W, and fills in the library's two lists
   pub written_read : (entries lengths : List ℕ) → length lib.entries ≤ length entries → length lib.lengths ≤ length lengths

@@ -1,16 +1,16 @@
 -- Reading: from the keys of a level to those of the next, and from no bits to all.
-use Prim.Native.Nat.{ℕ, suc, ◌+◌, ◌-◌, ◌*◌, ◌/◌, ◌%◌, ◌^◌, ◌≤◌, ◌<◌}
+use Prim.Native.Nat.{ℕ, suc, ◌+◌, ◌*◌, ◌/◌, ◌%◌, ◌^◌, ◌≤◌, ◌<◌}
 use mathlib.Core.Path.{◌≡◌, refl, sym, ap, ap₂, ◌∙◌, subst}
 use mathlib.Core.List.{List, map}
 use native.Mathlib.Nat.{le_of_lt, div-one}
 use native.Mathlib.Decide.{ℕ_discrete}
 use native.Mathlib.Numerals.{add-one}
 use native.Mathlib.Omega.{arith}
-use lib.ListN.{length, get_or, set, take, drop, length-map, length-drop}
-use lib.Seq.{get_or-take, get_or-set_same, get_or-set_other, take_all, ext_get_or}
+use lib.ListN.{length, get_or, set, take, length-map}
+use lib.Seq.{get_or-set_same, get_or-set_other, ext_get_or}
 use lib.Dec.{ltb, eqb}
 use Rattle.bits.specs.Sequences.{below, tally}
-use Rattle.bits.specs.Bits.{bit_at, row_bytes}
+use Rattle.bits.specs.Bits.{bit_at}
 use Rattle.bits.proofs.Tally.{tally_same, tally-map, tally_le_length, length-up_from, get_or-map-below}
 use Rattle.bits.proofs.Bits.{get_or-bits_of}
 use Rattle.model.specs.Lists.{Within}
@@ -20,13 +20,12 @@ use Rattle.model.specs.Walk.{pos, key}
 use Rattle.model.proofs.Lists.{within_at, map-take, get_or-map}
 use Rattle.model.proofs.Wavelet.Groups.{length_groups, pos_lt}
 use Rattle.model.proofs.Wavelet.Rows.{key_half, key_lt, key-root, key_leaf, row-length, row-bit, row-pos_lt}
-use Rattle.model.proofs.Sums.{chunk_end}
 use Rattle.wavelet.specs.declared.Levels.{Levels}
-use Rattle.wavelet.specs.Levels.{row_in, entries_in}
-use Rattle.wavelet.proofs.Stored.{length-entries_in, within_entries_in, level_is}
+use Rattle.wavelet.specs.Levels.{row_in, entries_in, Stored}
+use Rattle.wavelet.proofs.Stored.{length-row_in, length-entries_in, within_entries_in, level_is}
 use Rattle.archive.proofs.Bounds.{key-count}
 use Rattle.keys.specs.Counters.{Keyed, Zeros, Next}
-use Rattle.reader.specs.Reading.{place_of, Descent, Deepened, Readable, keys_at}
+use Rattle.reader.specs.Reading.{place_of, Descent, Deepened, keys_at}
 
 -- ---- one entry more
 
@@ -135,32 +134,14 @@ keys_leaf h xs =
 
 -- ---- the rows in the bytes
 
-module _ (bytes : List ℕ) (t : Levels) (r : Readable bytes t) (j : ℕ) (level : j < t.height) where
-  pub row_inside : t.rows + j * row_bytes t.entries + row_bytes t.entries ≤ length bytes
-  row_inside = omega (arith, chunk_end (row_bytes t.entries) j t.height level, r.fits)
-
-  -- the bits from the start of row j on
-  pub row-bits : (p : ℕ) → p < length (entries_in bytes t)
-      → bit_at (drop (t.rows + j * row_bytes t.entries) bytes) p ≡ get_or (row t.height j (entries_in bytes t)) p 0
+module _ (bytes : List ℕ) (t : Levels) (r : Stored bytes t) (j : ℕ) (level : j < t.height) where
+  row-bits : (p : ℕ) → p < length (entries_in bytes t) → bit_at (row_in bytes t j) p ≡ get_or (row t.height j (entries_in bytes t)) p 0
   row-bits p l =
-      let at = t.rows + j * row_bytes t.entries in
-      let m : p < t.entries = omega (arith, length-entries_in bytes t) in
-      ap (λ (b : ℕ). b / 2 ^ (p % 8) % 2) (sym (get_or-take (row_bytes t.entries) (drop at bytes) (p / 8) 0 (omega arith)))
-      ∙ sym (get_or-bits_of t.entries (row_in bytes t j) p m)
+      sym (get_or-bits_of t.entries (row_in bytes t j) p (omega (arith, length-entries_in bytes t)))
       ∙ ap (λ (b : List ℕ). get_or b p 0) (sym (level_is bytes t j level))
 
   abbrev xs : List ℕ
   xs = entries_in bytes t
-
-  abbrev at : ℕ
-  at = t.rows + j * row_bytes t.entries
-
-  -- the part that the code lends
-  abbrev lent : List ℕ
-  lent = take (length bytes - at) (drop at bytes)
-
-  lent_is : lent ≡ drop at bytes
-  lent_is = take_all (length bytes - at) (drop at bytes) (omega (arith, length-drop at bytes))
 
   keys_size : length (keys_at bytes t j) ≡ t.entries
   keys_size = length-map xs (key t.height j) ∙ length-entries_in bytes t
@@ -174,10 +155,10 @@ module _ (bytes : List ℕ) (t : Levels) (r : Readable bytes t) (j : ℕ) (level
         keys = λ i l. rw (div-one (get_or (keys_at bytes t j) i 0)) (ks-below t.height j xs level (within_entries_in bytes t) i l);
       })
 
-  pub descent : (keys next : List ℕ) → keys ≡ keys_at bytes t j → length next ≡ 4096 → Next 0 (2 ^ j) keys 0 next → Descent lent next keys
+  pub descent : (keys next : List ℕ) → keys ≡ keys_at bytes t j → length next ≡ 4096 → Next 0 (2 ^ j) keys 0 next → Descent (row_in bytes t j) next keys
   descent keys next e size places =
       let k = keyed keys e in
-      let low : 2 ^ j ≤ 4096 = key-count j (omega (arith, r.short)) in
+      let low : 2 ^ j ≤ 4096 = key-count j (omega (arith, r.low)) in
       let many : length keys ≡ t.entries = ap length e ∙ keys_size in
       record {
         bound = 2 ^ j;
@@ -186,13 +167,14 @@ module _ (bytes : List ℕ) (t : Levels) (r : Readable bytes t) (j : ℕ) (level
         keys_below = λ i l. rw (div-one (get_or keys i 0)) at (k.keys i l);
         counters = omega arith;
         places = places;
-        size = omega (arith, ap length lent_is, length-drop at bytes, row_inside);
+        size = omega (arith, length-row_in bytes t r j level);
       }
 
-  pub read_on : (keys after : List ℕ) → keys ≡ keys_at bytes t j → length after ≡ length keys → Deepened lent keys after → after ≡ keys_at bytes t (j + 1)
+  pub read_on : (keys after : List ℕ) → keys ≡ keys_at bytes t j → length after ≡ length keys → Deepened (row_in bytes t j) keys after
+      → after ≡ keys_at bytes t (j + 1)
   read_on keys after e size deep =
-      deepened t.height j xs level (within_entries_in bytes t) (drop at bytes) after row-bits (size ∙ ap length e)
-      (subst (λ (k : List ℕ). Deepened (drop at bytes) k after) e (subst (λ (b : List ℕ). Deepened b keys after) lent_is deep))
+      deepened t.height j xs level (within_entries_in bytes t) (row_in bytes t j) after row-bits (size ∙ ap length e)
+      (subst (λ (k : List ℕ). Deepened (row_in bytes t j) k after) e deep)
 
 -- ---- the term lengths
 

@@ -1,15 +1,16 @@
 -- What the reader's parts do, from the keys of one level to those of the next, and the answers of the reader.
-use Rattle.std.specs.Prelude.{ℕ, ◌+◌, ◌-◌, ◌*◌, ◌/◌, ◌^◌, ◌≤◌, ◌<◌, ◌≡◌, List, map, length, get_or, take, ltb, eqb}
+use Rattle.std.specs.Prelude.{ℕ, ◌+◌, ◌-◌, ◌*◌, ◌/◌, ◌^◌, ◌≤◌, ◌<◌, ◌≡◌, List, map, length, get_or, take, ltb, eqb, Result}
 use Rattle.bits.specs.Sequences.{tally}
-use Rattle.bits.specs.Bits.{bit_at, row_bytes}
-use Rattle.model.specs.Outcome.{Outcome, answered, refused}
-use Rattle.model.specs.Format.{Sizes}
+use Rattle.bits.specs.Bits.{bit_at}
+use Rattle.model.specs.Outcome.{Outcome}
+use Rattle.model.specs.Format as model
 use Rattle.model.specs.Opening.{ReadResult}
 use Rattle.wavelet.specs.declared.Levels.{Levels}
 use Rattle.wavelet.specs.Levels.{entries_in}
 use Rattle.keys.specs.Counters.{Next}
-use Rattle.reader.specs.declared.Reading.{Reading}
-use Rattle.reader.specs.declared.Reading.TheVariants.{Read, Refused}
+use Rattle.refusals.specs.declared.Refusal.{Refusal}
+use Rattle.refusals.specs.Refusals.{outcome_by}
+use Rattle.reader.specs.declared.Sizes.{Sizes}
 
 -- the place of entry i where the entries are arranged by their keys
 abbrev pub place_of : List ℕ → ℕ → ℕ
@@ -29,22 +30,18 @@ pub record Descent (row next keys : List ℕ) : Type 0 where
 abbrev pub Deepened : List ℕ → List ℕ → List ℕ → Type 0
 Deepened row keys after = (i : ℕ) → i < length keys → get_or after i 0 ≡ 2 * get_or keys i 0 + bit_at row (place_of keys i)
 
--- levels whose rows lie in the bytes
-pub record Readable (bytes : List ℕ) (t : Levels) : Type 0 where
-  pub few : t.entries ≤ 65535
-  pub short : t.height ≤ 12
-  pub near : t.rows ≤ 131072
-  pub fits : t.rows + t.height * row_bytes t.entries ≤ length bytes
-
 -- the keys of level j
 abbrev pub keys_at : List ℕ → Levels → ℕ → List ℕ
 keys_at bytes t j = map (λ v. v / 2 ^ (t.height - j)) (entries_in bytes t)
 
--- document 01's number and values for each case of the answer
-abbrev pub reading_of : Reading → Outcome Sizes
-reading_of (Read n d w) = answered (record { entries = n; documents = d; terms = w })
-reading_of (Refused number) = refused number
+-- n, N and W as document 01 has them
+abbrev pub sizes_of : Sizes → model.Sizes
+sizes_of s = record { entries = s.entries; documents = s.documents; terms = s.terms }
+
+-- n, N and W, or the number of a refusal
+abbrev pub reading_of : Result Sizes Refusal → Outcome model.Sizes
+reading_of = outcome_by sizes_of
 
 -- the answer, with the final content of the two lists
-abbrev pub reading_is : Reading → List ℕ → List ℕ → ReadResult
+abbrev pub reading_is : Result Sizes Refusal → List ℕ → List ℕ → ReadResult
 reading_is r entries lengths = record { outcome = reading_of r; entries = entries; lengths = lengths }

@@ -6,13 +6,10 @@ mod rows;
 
 pub use lists::{read, read_in, read_opened};
 
-// The reader's answer: n, N and W, or the number of a refusal.
+// What is read beside the two lists: n, N and W.
 #[derive(Clone, Copy)]
-pub enum Reading {
-    Read {
-        entries: usize,
-        documents: usize,
-        terms: usize,
-    },
-    Refused(u32),
+pub struct Sizes {
+    pub entries: usize,
+    pub documents: usize,
+    pub terms: usize,
 }

@@ -1,4 +1,5 @@
 -- Laws of writing.
+pub mod Chains
 pub mod Numbers
 pub mod Overwrite
 pub mod Filling

@@ -1,16 +1,16 @@
 -- What the writer's parts write, and the answers of the writer.
-use Rattle.std.specs.Prelude.{ℕ, ◌+◌, ◌*◌, ◌^◌, ◌≤◌, ◌<◌, ◌≡◌, List, ◌++◌, length, take, drop}
+use Rattle.std.specs.Prelude.{ℕ, ◌+◌, ◌*◌, ◌^◌, ◌≤◌, ◌<◌, ◌≡◌, List, ◌++◌, length, take, drop, Result}
 use Rattle.bits.specs.Bits.{pack, samples_of, row_bytes, sample_count}
 use Rattle.model.specs.Lists.{Within}
-use Rattle.model.specs.Outcome.{Outcome, answered, refused}
+use Rattle.model.specs.Outcome.{Outcome, answered}
 use Rattle.model.specs.Rows.{row}
 use Rattle.model.specs.Format.{Library, sizes_of, archive_length, encode, archive_of, WriteResult}
 use Rattle.wavelet.specs.declared.Levels.{Levels}
 use Rattle.wavelet.specs.Levels.{samples_in, row_in}
 use Rattle.archive.specs.declared.Layout.{Layout}
 use Rattle.archive.specs.Layout.{layout_of}
-use Rattle.writer.specs.declared.Written.{Written}
-use Rattle.writer.specs.declared.Written.TheVariants.{Length, Refused}
+use Rattle.refusals.specs.declared.Refusal.{Refusal}
+use Rattle.refusals.specs.Refusals.{outcome_by}
 
 -- a list that is written into another from place k on; the rest is untouched
 abbrev pub overwrite_at : ℕ → List ℕ → List ℕ → List ℕ
@@ -46,11 +46,10 @@ pub record Writable (lib : Library) (l : Layout) (target : List ℕ) : Type 0 wh
   pub shape : l ≡ layout_of (sizes_of lib)
   pub fits : archive_length (sizes_of lib) ≤ length target
 
--- document 01's number and value for each case of the answer
-abbrev pub written_of : Written → Outcome ℕ
-written_of (Length n) = answered n
-written_of (Refused number) = refused number
+-- the length of the archive, or the number of a refusal
+abbrev pub written_of : Result ℕ Refusal → Outcome ℕ
+written_of = outcome_by (λ n. n)
 
 -- the answer, with the final content of the target
-abbrev pub written_is : Written → List ℕ → WriteResult
+abbrev pub written_is : Result ℕ Refusal → List ℕ → WriteResult
 written_is r target = record { outcome = written_of r; target = target }

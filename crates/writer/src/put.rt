@@ -1,5 +1,5 @@
 // Writing numbers and bytes into a part of the target.
-ghost use Rattle.std.specs.Prelude.{◌≡◌, map, ◌+◌, ◌*◌, ◌^◌, ◌≤◌, ◌<◌, length, take};
+ghost use Rattle.std.specs.Prelude.{◌≡◌, map, ◌+◌, ◌*◌, ◌^◌, ◌≤◌, ◌<◌, length};
 ghost use Rattle.bits.specs.Bits.{concat, sum, little_endian};
 ghost use Rattle.model.specs.Lists.{Within};
 ghost use Rattle.model.specs.Format.{header, table_from};
@@ -8,18 +8,13 @@ ghost use Rattle.writer.specs.Writing.{overwrite_at};
 
 use archive::Layout;
 use bit_rows::put_number;
-use keys::wide;
 
-// Copies the first m bytes of the source.
-pub fn copy_bytes(source: &[u8], m: usize, target: &mut [u8], at: usize)
-    requires { (m ≤ length source.now) × (at + m ≤ length target.old) }
-    ensures { target.new ≡ overwrite_at at (take m source.now) target.old }
+// Copies bytes to a place.
+pub fn copy_bytes(source: &[u8], target: &mut [u8], at: usize)
+    requires { at + length source.now ≤ length target.old }
+    ensures { target.new ≡ overwrite_at at source.now target.old }
 {
-    let mut i = 0;
-    while i < m {
-        target[at + i] = source[i];
-        i += 1;
-    }
+    target[at..at + source.len()].copy_from_slice(source);
 }
 
 // Writes numbers of 32 bits from the target's start on.
@@ -27,10 +22,8 @@ fn put_numbers(numbers: &[usize], target: &mut [u8])
     requires { (4 * length numbers.now ≤ length target.old) × (length numbers.now ≤ 65536) × Within (2 ^ 32) numbers.now }
     ensures { target.new ≡ overwrite_at 0 (concat (map little_endian numbers.now)) target.old }
 {
-    let mut i = 0;
-    while i < numbers.len() {
-        put_number(target, 4 * i, numbers[i]);
-        i += 1;
+    for (i, number) in numbers.iter().enumerate() {
+        put_number(target, 4 * i, *number);
     }
 }
 
@@ -64,13 +57,11 @@ pub fn put_table(lengths: &[u32], target: &mut [u8])
     requires { (40 + 8 * length lengths.now ≤ length target.old) × (length lengths.now ≤ 4096) × (sum lengths.now ≤ 65535) }
     ensures { target.new ≡ overwrite_at 40 (concat (map little_endian (table_from 0 lengths.now))) target.old }
 {
-    let mut start: usize = 0;
-    let mut t = 0;
-    while t < lengths.len() {
-        let length = wide(lengths[t]);
+    let mut start = 0;
+    for (t, length) in lengths.iter().enumerate() {
+        let length = *length as usize;
         put_number(target, 40 + 8 * t, start);
         put_number(target, 44 + 8 * t, length);
         start += length;
-        t += 1;
     }
 }

@@ -6,5 +6,5 @@ use Rattle.archive.proofs.check.entries_hold.Goals as goal
 
 pub returns : goal.returns
 returns c =
-    let s = c.args in
-    ap (λ (x : ℕ). eqb x s.t.entries) c.count_below.ensures ∙ entries_below s.archive.now s.t s.documents
+    let t = c.args.tree.now in
+    ap (λ (x : ℕ). eqb x t.levels.entries) c.count_below.ensures ∙ entries_below t.bytes.now t.levels c.args.documents

@@ -1,25 +1,11 @@
-use mathlib.Core.Path.{◌≡◌, refl}
-use native.Mathlib.Omega.{arith}
-use lib.Seq.{take_all}
-use lib.ListN.{take}
-use Rattle.model.proofs.Sums.{sum-suc}
+use Rattle.std.proofs.Common.{◌∙◌, rules}
+use Rattle.std.proofs.lemmas.Iterator.{YieldsList-from_slice, YieldsList-from_map}
+use Rattle.std.proofs.lemmas.Iterator.Consumers.{sum_by_from_yields_List}
+use Rattle.writer.proofs.Chains.{sum-list}
 use Rattle.writer.proofs.libraries.total.Goals as goal
-
-pub loop-t-init : goal.loop-t-init
-loop-t-init c = (omega arith, refl, omega arith)
-
-pub overflow_add-total : goal.overflow_add-total
-overflow_add-total c = record { fits = omega arith }
-
-pub loop-t-preserved : goal.loop-t-preserved
-loop-t-preserved c =
-    let l = c.loop-t in
-    let xs = c.args.lengths.now in
-    (omega arith, omega (arith, sum-suc xs l.t (omega arith)), omega arith)
 
 pub returns : goal.returns
 returns c =
-    let l = c.loop-t in
     let xs = c.args.lengths.now in
-    let e : take l.t xs ≡ xs = take_all l.t xs (omega arith) in
-    rw e at l.invariant.1
+    sum_by_from_yields_List (λ x. x) xs c.map.result c.sum.result c.sum.ensures.ran (YieldsList-from_map _ (λ x. x) (YieldsList-from_slice xs cc) c.map.ensures.closure (λ x r q k. search rules))
+    ∙ sum-list xs

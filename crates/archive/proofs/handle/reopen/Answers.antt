@@ -7,7 +7,7 @@ use Rattle.model.specs.Opening.{sizes_at}
 use Rattle.model.proofs.Format.Valid.{Limits}
 use Rattle.archive.specs.Layout.{layout_of, IsArchive, Opened}
 use Rattle.archive.proofs.Opened.{archive_opened, limits, pair_end}
-use Rattle.archive.proofs.offsets.layout_in.Goals as goal
+use Rattle.archive.proofs.handle.reopen.Goals as goal
 
 -- the header lies in the bytes
 long : (bytes : List ℕ) → IsArchive bytes → 40 ≤ length bytes
@@ -16,31 +16,30 @@ long bytes e =
     omega (arith, pair_end bytes (layout_of (sizes_at bytes)) o 0 (limits bytes (layout_of (sizes_at bytes)) o).some_term)
 
 pub number-requires : goal.number-requires
-number-requires c = omega (arith, long c.args.archive.now c.requires)
+number-requires c = omega (arith, long c.args.bytes.now c.requires)
 
 pub number-requires-2 : goal.number-requires-2
-number-requires-2 c = omega (arith, long c.args.archive.now c.requires)
+number-requires-2 c = omega (arith, long c.args.bytes.now c.requires)
 
 pub number-requires-3 : goal.number-requires-3
-number-requires-3 c = omega (arith, long c.args.archive.now c.requires)
+number-requires-3 c = omega (arith, long c.args.bytes.now c.requires)
 
-pub layout_of-requires : goal.layout_of-requires
-layout_of-requires c =
-    let sizes : sizes_at c.args.archive.now ≡ record { entries = c.number.result; documents = c.number-2.result; terms = c.number-3.result } =
+pub layout_of-layout-requires : goal.layout_of-layout-requires
+layout_of-layout-requires c =
+    let sizes : sizes_at c.args.bytes.now ≡ record { entries = c.number.result; documents = c.number-2.result; terms = c.number-3.result } =
     let n = sym c.number.ensures.0 in
     let d = sym c.number-2.ensures.0 in
     let w = sym c.number-3.ensures.0 in
     λ i. record { entries = n i; documents = d i; terms = w i } in
     let s = c in
-    let l = subst Limits (sizes) (limits s.args.archive.now (layout_of (sizes_at s.args.archive.now)) (archive_opened s.args.archive.now s.requires)) in
+    let l = subst Limits (sizes) (limits s.args.bytes.now (layout_of (sizes_at s.args.bytes.now)) (archive_opened s.args.bytes.now s.requires)) in
     (l.entries, l.some_document, l.documents, l.some_term, l.terms)
 
-pub returns : goal.returns
-returns c =
-    let sizes : sizes_at c.args.archive.now ≡ record { entries = c.number.result; documents = c.number-2.result; terms = c.number-3.result } =
+pub invariant_of-result : goal.invariant_of-result
+invariant_of-result c =
+    let sizes : sizes_at c.args.bytes.now ≡ record { entries = c.number.result; documents = c.number-2.result; terms = c.number-3.result } =
     let n = sym c.number.ensures.0 in
     let d = sym c.number-2.ensures.0 in
     let w = sym c.number-3.ensures.0 in
     λ i. record { entries = n i; documents = d i; terms = w i } in
-    let s = c in
-    subst (Opened s.args.archive.now) (ap layout_of (sizes) ∙ sym c.layout_of.ensures) (archive_opened s.args.archive.now s.requires)
+    record { opened = subst (Opened c.args.bytes.now) (ap layout_of (sizes) ∙ sym c.layout_of-layout.ensures) (archive_opened c.args.bytes.now c.requires) }
