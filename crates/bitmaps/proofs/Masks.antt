@@ -1,5 +1,5 @@
 -- The words of the blocks under a node: of an empty range, of a node that is a block, and of the halves of a node, and how many there are.
-use Prim.Native.Nat.{ℕ, zero, suc, ◌+◌, ◌-◌, ◌*◌, ◌/◌, ◌%◌, ◌^◌, ◌≤◌, ◌<◌}
+use Prim.Native.Nat.{ℕ, zero, suc, ◌+◌, ◌-◌, ◌*◌, ◌/◌, ◌%◌, ◌^◌, ◌≤◌}
 use native.Mathlib.Nat.{pow-suc}
 use native.Mathlib.Numerals.{add-one}
 use native.Mathlib.Omega.{arith}
@@ -52,15 +52,10 @@ pub block_six : (h j : ℕ) → j + 1 + block_height h ≤ h → block_height h 
 block_six h j l = omega arith
 
 -- of a tree of height h
-pub all-low : (h blocks : ℕ) → h < 6 → blocks ≡ 1 → blocks ≡ 2 ^ (h - block_height h - 0)
-all-low h blocks l e =
-    let none : h - block_height h - 0 ≡ 0 = omega arith in
-    e ∙ ap (λ m. 2 ^ m) (sym none)
-
-pub all-high : (h blocks : ℕ) → 6 ≤ h → h ≤ 12 → blocks ≡ 1 * 2 ^ (h - 6) % 2 ^ 64 → blocks ≡ 2 ^ (h - block_height h - 0)
-all-high h blocks l m e =
+pub all_blocks : (h : ℕ) → h ≤ 12 → 1 * 2 ^ (h - 6) % 2 ^ 64 ≡ 2 ^ (h - block_height h - 0)
+all_blocks h l =
     let same : h - 6 ≡ h - block_height h - 0 = omega arith in
-    e ∙ shl_one_word (h - 6) (omega arith) ∙ ap (λ m. 2 ^ m) same
+    shl_one_word (h - 6) (omega arith) ∙ ap (λ m. 2 ^ m) same
 
 pub all_few : (h blocks : ℕ) → h ≤ 12 → blocks ≡ 2 ^ (h - block_height h - 0) → blocks ≤ 64
 all_few h blocks l e =

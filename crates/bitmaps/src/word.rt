@@ -1,11 +1,11 @@
 // The word of a node of height at most 6: a bit for each document under it, 1 where the range has an entry of it.
 ghost use Rattle.std.specs.Prelude.{◌≡◌, ◌+◌, ◌-◌, ◌*◌, ◌^◌, ◌≤◌, ◌<◌};
-ghost use Rattle.wavelet.specs.Levels.{Stored, level_of};
+ghost use Rattle.wavelet.specs.Levels.{level_of};
 ghost use Rattle.wavelet.specs.Spans.{Ordered, span};
 ghost use Rattle.bitmaps.specs.Words.{span_word, last_word};
 
 use crate::single::document_at;
-use wavelet::{Levels, Span, halve, ones_between};
+use wavelet::{Span, Tree};
 
 // The words of two halves of so many documents, one after the other.
 fn beside(zero: u64, one: u64, documents: usize) -> u64
@@ -16,50 +16,43 @@ fn beside(zero: u64, one: u64, documents: usize) -> u64
 }
 
 // The two documents of a node of the last row: the zeros of a range are entries of one, and the ones of the other.
-fn last_word(bytes: &[u8], t: Levels, j: usize, lo: usize, hi: usize) -> u64
-    requires stored { Stored bytes.now t }
-    requires j_lt_height { (j < t.height) × (lo ≤ hi) × (hi ≤ t.entries) }
-    ensures { (result ≡ last_word (level_of bytes.now t j) lo hi) × (result < 4) }
+fn last_word(tree: &Tree<'_>, j: usize, lo: usize, hi: usize) -> u64
+    requires j_lt_height { (j < tree.now.levels.height) × (lo ≤ hi) × (hi ≤ tree.now.levels.entries) }
+    ensures { (result ≡ last_word (level_of tree.now.bytes.now tree.now.levels j) lo hi) × (result < 4) }
 {
-    let ones = ones_between(bytes, t, j, lo, hi);
+    let ones = tree.ones_between(j, lo, hi);
     (ones < hi - lo) as u64 + 2 * (0 < ones) as u64
 }
 
 // The range lo to hi of a node of level j, which spans start to end, with an entry at least. An empty half is not entered.
-pub fn node_word(
-    bytes: &[u8],
-    t: Levels,
-    j: usize,
-    start: usize,
-    lo: usize,
-    hi: usize,
-    end: usize,
-) -> u64
-    requires stored { Stored bytes.now t }
-    requires j_le_height { (j ≤ t.height) × (t.height ≤ j + 6) × (lo < hi) × Ordered t.entries (span start lo hi end) }
-    ensures { (result ≡ span_word (level_of bytes.now t) (t.height - j) j (span start lo hi end)) × (result < 2 ^ (2 ^ (t.height - j))) }
+// The places pass as numbers: a struct would be copied on the way.
+pub fn node_word(tree: &Tree<'_>, j: usize, start: usize, lo: usize, hi: usize, end: usize) -> u64
+    requires j_le_height { (j ≤ tree.now.levels.height) × (tree.now.levels.height ≤ j + 6) × (lo < hi) × Ordered tree.now.levels.entries (span start lo hi end) }
+    ensures { (result ≡ span_word (level_of tree.now.bytes.now tree.now.levels) (tree.now.levels.height - j) j (span start lo hi end))
+        × (result < 2 ^ (2 ^ (tree.now.levels.height - j))) }
 {
-    if j == t.height {
+    let height = tree.levels.height;
+    if j == height {
         return 1;
     }
     if hi == lo + 1 {
-        return 1 << document_at(bytes, t, j, start, lo, end);
+        return 1 << document_at(tree, j, start, lo, end);
     }
-    if j + 1 == t.height {
-        return last_word(bytes, t, j, lo, hi);
+    if j + 1 == height {
+        return last_word(tree, j, lo, hi);
     }
-    let two = halve(bytes, t, j, Span { start, lo, hi, end });
+    let two = tree.halve(j, Span { start, lo, hi, end });
     let zero = two.zero;
     let one = two.one;
     let first = if zero.lo == zero.hi {
         0
     } else {
-        node_word(bytes, t, j + 1, zero.start, zero.lo, zero.hi, zero.end)
+        node_word(tree, j + 1, zero.start, zero.lo, zero.hi, zero.end)
     };
     let second = if one.lo == one.hi {
         0
     } else {
-        node_word(bytes, t, j + 1, one.start, one.lo, one.hi, one.end)
+        node_word(tree, j + 1, one.start, one.lo, one.hi, one.end)
     };
-    beside(first, second, 1 << (t.height - j - 1))
+    beside(first, second, 1 << (height - j - 1))
 }

@@ -3,72 +3,58 @@ ghost use Rattle.std.specs.Prelude.{◌≡◌, ◌-◌, ◌≤◌, ◌<◌};
 ghost use Rattle.model.specs.Lists.{part};
 ghost use Rattle.model.specs.Opening.{contents};
 ghost use Rattle.model.specs.Queries as model;
-ghost use Rattle.archive.specs.Layout.{Opened};
 ghost use Rattle.answers.specs.Answers.{number_of};
-ghost use Rattle.archive_ranges.specs.Ranges.{bounds_in, Inside};
+ghost use Rattle.model.specs.Outcome.{answered};
 ghost use Rattle.queries.specs.Ranges.{quantile_of};
 
-use answers::Answer;
-use archive::{Layout, Opening, open};
-use archive_ranges::{Range, entry_range, term_range};
+use archive::{Archive, open};
+use archive_ranges::{Entries, entry_range, term_range};
+use refusals::Refusal;
 
-pub fn quantile_in(archive: &[u8], l: Layout, a: usize, b: usize, r: usize) -> usize
-    requires opened { Opened archive.now l }
-    requires a_le_b { (a ≤ b) × (b ≤ l.levels.entries) × (r < b - a) }
-    ensures { (result ≡ model.quantile r (part a b (contents archive.now).entries)) × (result < l.documents) }
+pub fn quantile_in(archive: &Archive<'_>, a: usize, b: usize, r: usize) -> usize
+    requires { (a ≤ b) × (b ≤ archive.now.layout.levels.entries) × (r < b - a) }
+    ensures { (result ≡ model.quantile r (part a b (contents archive.now.bytes.now).entries)) × (result < archive.now.layout.documents) }
 {
-    let found = wavelet::quantile(archive, l.levels, a, b, r);
-    found.document
+    archive.tree().quantile(a, b, r).document
 }
 
-// The quantile of a range that is refused or inside the entries.
-fn quantile_of(archive: &[u8], l: Layout, range: Range, r: u32) -> Answer
-    requires opened { Opened archive.now l }
-    requires inside { Inside l.levels.entries range }
-    ensures { number_of result ≡ quantile_of (contents archive.now) (bounds_in range) r }
+// The quantile of a range inside the entries.
+fn quantile_of(archive: &Archive<'_>, range: Entries, r: u32) -> Result<u32, Refusal>
+    requires { (range.from ≤ range.to) × (range.to ≤ archive.now.layout.levels.entries) }
+    ensures { number_of result ≡ quantile_of (contents archive.now.bytes.now) (answered (record { from = range.from; to = range.to })) r }
 {
-    match range {
-        Range::Entries { from, to } => {
-            if to - from <= r {
-                Answer::Refused(11)
-            } else {
-                Answer::Number(
-                    quantile_in(archive, l, from as usize, to as usize, r as usize) as u32,
-                )
-            }
-        }
-        Range::Refused(number) => Answer::Refused(number),
+    if range.to - range.from <= r {
+        return Err(Refusal::Argument);
     }
+    let document = quantile_in(archive, range.from as usize, range.to as usize, r as usize);
+    Ok(document as u32)
 }
 
-pub fn quantile_opened(archive: &[u8], l: Layout, a: u32, b: u32, r: u32) -> Answer
-    requires { Opened archive.now l }
+pub fn quantile_opened(archive: &Archive<'_>, a: u32, b: u32, r: u32) -> Result<u32, Refusal>
+    ensures { number_of result ≡ model.quantile_result archive.now.bytes.now (model.of_entries a b) r }
+{
+    quantile_of(archive, entry_range(archive.layout, a, b)?, r)
+}
+
+pub fn quantile_terms_opened(
+    archive: &Archive<'_>,
+    first: u32,
+    last: u32,
+    r: u32,
+) -> Result<u32, Refusal>
+    ensures { number_of result ≡ model.quantile_result archive.now.bytes.now (model.of_terms first last) r }
+{
+    quantile_of(archive, term_range(archive, first, last)?, r)
+}
+
+pub fn quantile(archive: &[u8], a: u32, b: u32, r: u32) -> Result<u32, Refusal>
     ensures { number_of result ≡ model.quantile_result archive.now (model.of_entries a b) r }
 {
-    quantile_of(archive, l, entry_range(l, a, b), r)
+    quantile_opened(&open(archive)?, a, b, r)
 }
 
-pub fn quantile_terms_opened(archive: &[u8], l: Layout, first: u32, last: u32, r: u32) -> Answer
-    requires { Opened archive.now l }
+pub fn quantile_terms(archive: &[u8], first: u32, last: u32, r: u32) -> Result<u32, Refusal>
     ensures { number_of result ≡ model.quantile_result archive.now (model.of_terms first last) r }
 {
-    quantile_of(archive, l, term_range(archive, l, first, last), r)
-}
-
-pub fn quantile(archive: &[u8], a: u32, b: u32, r: u32) -> Answer
-    ensures { number_of result ≡ model.quantile_result archive.now (model.of_entries a b) r }
-{
-    match open(archive) {
-        Opening::Accepted(l) => quantile_opened(archive, l, a, b, r),
-        Opening::Refused(number) => Answer::Refused(number),
-    }
-}
-
-pub fn quantile_terms(archive: &[u8], first: u32, last: u32, r: u32) -> Answer
-    ensures { number_of result ≡ model.quantile_result archive.now (model.of_terms first last) r }
-{
-    match open(archive) {
-        Opening::Accepted(l) => quantile_terms_opened(archive, l, first, last, r),
-        Opening::Refused(number) => Answer::Refused(number),
-    }
+    quantile_terms_opened(&open(archive)?, first, last, r)
 }

@@ -2,6 +2,7 @@
 use Prim.Native.Nat.{ℕ}
 use mathlib.Core.Path.{◌≡◌, sym, subst₂, fun_ext}
 use mathlib.Core.List.{List}
+use Rattle.std.specs.Prelude.{Result}
 use Rattle.model.specs.Outcome.{Outcome, answered}
 use Rattle.model.specs.Format.{Sizes}
 use Rattle.model.specs.Opening.{contents, opening}
@@ -10,11 +11,11 @@ use Rattle.model.specs.RankSet.{rank_set_result}
 use Rattle.model.specs.RankSetDemand.{RankSetDemand}
 use Rattle.model.proofs.Format.WriteBack as read
 use Rattle.model.proofs.RankSet.Demand.{rank-set_demand}
-use Rattle.answers.specs.declared.Answer.{Answer}
+use Rattle.refusals.specs.declared.Refusal.{Refusal}
 use Rattle.answers.specs.Answers.{number_of}
 
 -- for every accepted archive: what is answered for each document, each set and each place
-pub demanded : (bytes : List ℕ) (s : Sizes) → opening bytes ≡ answered s → (one : ℕ → ℕ → Answer) (many : List ℕ → ℕ → Answer)
+pub demanded : (bytes : List ℕ) (s : Sizes) → opening bytes ≡ answered s → (one : ℕ → ℕ → Result ℕ Refusal) (many : List ℕ → ℕ → Result ℕ Refusal)
     → ((d p : ℕ) → number_of (one d p) ≡ rank_result bytes d p) → ((set : List ℕ) (p : ℕ) → number_of (many set p) ≡ rank_set_result bytes set p)
     → RankSetDemand (contents bytes) (λ d p. number_of (one d p)) (λ set p. number_of (many set p))
 demanded bytes s archive one many promised promise =

@@ -1,5 +1,5 @@
 -- Sets of documents under a node: at the root, at the lowest node that has them all, and the parts of a set under a node's halves.
-use Prim.Native.Nat.{ℕ, zero, ◌+◌, ◌-◌, ◌*◌, ◌/◌, ◌^◌, ◌≤◌, ◌<◌}
+use Prim.Native.Nat.{ℕ, ◌+◌, ◌-◌, ◌*◌, ◌/◌, ◌^◌, ◌≤◌, ◌<◌}
 use native.Mathlib.Omega.{arith}
 use native.Mathlib.Nat.{le_trans, div-mul-le_self, le-div_iff_mul-le}
 use native.Mathlib.Numerals.{add-one}

@@ -1,13 +1,9 @@
 -- Ascending documents by their places, and those of a set that agree but for their last bits.
-use Rattle.std.specs.Prelude.{ℕ, ◌/◌, ◌^◌, ◌≤◌, ◌<◌, ◌≡◌, List, Bool, ◌&&◌, length, get_or, ltb, eqb}
+use Rattle.std.specs.Prelude.{ℕ, ◌/◌, ◌^◌, ◌≤◌, ◌<◌, ◌≡◌, List, length, get_or}
 
 -- each is below all that follow it
 abbrev pub Ascends : List ℕ → Type 0
 Ascends set = (i k : ℕ) → i < k → k < length set → get_or set i 0 < get_or set k 0
-
--- whether the one at a place is the given number without its last bits
-abbrev pub shares_at : List ℕ → ℕ → ℕ → ℕ → Bool
-shares_at set i bits number = ltb i (length set) && eqb (get_or set i 0 / 2 ^ bits) number
 
 -- the first so many agree with the first of all, and what follows them does not
 pub record Front (set : List ℕ) (bits size : ℕ) : Type 0 where

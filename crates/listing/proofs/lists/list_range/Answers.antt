@@ -15,12 +15,11 @@ pub list_node-requires : goal.list_node-requires
 list_node-requires c =
     let s = c in
     let g = s.args in record {
-      stored = s.requires.stored;
       j_le_height = (
         omega arith,
         omega arith,
         record { from = omega arith; range = s.requires.a_le_b.0; to = s.requires.a_le_b.1; inside = omega arith },
-        omega (arith, s.requires.a_le_b.2, ap length (pairs-root g.bytes.now g.t g.a g.b s.requires.a_le_b.0 s.requires.a_le_b.1)),
+        omega (arith, s.requires.a_le_b.2, ap length (pairs-root g.tree.now.bytes.now g.tree.now.levels g.a g.b s.requires.a_le_b.0 s.requires.a_le_b.1)),
         s.requires.a_le_b.3,
       );
     }
@@ -32,7 +31,7 @@ returns c =
     let g = s.args in record {
       lists = written-front s.requires.a_le_b.2
           (subst (λ (ps : List Pair). Written ps 0 g.answers.now k.list_node.new.answers k.list_node.result)
-          (pairs-root g.bytes.now g.t g.a g.b s.requires.a_le_b.0 s.requires.a_le_b.1) k.list_node.ensures.written);
-      cursors = subst (Cursors g.t.height (entries_in g.bytes.now g.t) g.a g.b g.b) (sym k.list_node.ensures.cursors_after)
-          (noted-root g.bytes.now g.t g.a g.b s.requires.a_le_b.0 s.requires.a_le_b.1 g.cursors.now s.requires.a_le_b.3);
+          (pairs-root g.tree.now.bytes.now g.tree.now.levels g.a g.b s.requires.a_le_b.0 s.requires.a_le_b.1) k.list_node.ensures.written);
+      cursors = subst (Cursors g.tree.now.levels.height (entries_in g.tree.now.bytes.now g.tree.now.levels) g.a g.b g.b) (sym k.list_node.ensures.cursors_after)
+          (noted-root g.tree.now.bytes.now g.tree.now.levels g.a g.b s.requires.a_le_b.0 s.requires.a_le_b.1 g.cursors.now s.requires.a_le_b.3);
     }

@@ -2,14 +2,21 @@ use mathlib.Core.Path.{ap, ◌∙◌}
 use Rattle.model.specs.Outcome.{Outcome}
 use Rattle.model.specs.Opening.{contents}
 use Rattle.model.specs.Queries.{Bounds, of_terms}
+use Rattle.answers.proofs.Passed.{pairs_passed_on}
 use Rattle.listing.specs.Listing.{list_of}
 use Rattle.listing.proofs.Listed.{list_is}
 use Rattle.listing.proofs.lists.list_terms_opened.Goals as goal
 
+pub returns-in_err-term_range : goal.returns-in_err-term_range
+returns-in_err-term_range c =
+    let g = c.args in
+    let e = ap (λ (ends : Outcome Bounds). list_of (contents g.archive.now.bytes.now) ends g.answers.now) (c.in_err-term_range.ensures.0)
+    ∙ list_is g.archive.now.bytes.now g.archive.now.layout g.archive.now.opened (of_terms g.first g.last) g.answers.now in
+    pairs_passed_on c.from_residual.result c.in_err-term_range.field-0.0 c.from_residual.ensures.1 e
+
 pub returns : goal.returns
 returns c =
-    let s = c in
-    let g = s.args in
+    let g = c.args in
     c.list_of.ensures
-    ∙ ap (λ (ends : Outcome Bounds). list_of (contents g.archive.now) ends g.answers.now) c.term_range.ensures.0
-    ∙ list_is g.archive.now g.l s.requires (of_terms g.first g.last) g.answers.now
+    ∙ ap (λ (ends : Outcome Bounds). list_of (contents g.archive.now.bytes.now) ends g.answers.now) (c.in_ok-term_range.ensures.0)
+    ∙ list_is g.archive.now.bytes.now g.archive.now.layout g.archive.now.opened (of_terms g.first g.last) g.answers.now

@@ -6,6 +6,3 @@ use Rattle.listing.proofs.places.put_noted.Given as goal
 
 abbrev pub invariant-loop-i : goal.invariant-loop-i
 invariant-loop-i l = (l.i ≤ l.n) × Spread (λ d. get_or l.first d 0) l.n l.i l.initial.answers l.answers
-
-abbrev pub decreases-loop-i : goal.decreases-loop-i
-decreases-loop-i l = l.i

@@ -1,4 +1,4 @@
-use Rattle.archive.proofs.Opened.{stored, entries-are, documents_fit}
+use Rattle.archive.proofs.Opened.{tree_entries, documents_fit}
 use Prim.Native.Nat.{ℕ}
 use native.Mathlib.Omega.{arith}
 use mathlib.Core.Path.{ap, ◌∙◌}
@@ -8,14 +8,11 @@ use Rattle.queries.proofs.entry.select_in.Goals as goal
 
 pub select-requires : goal.select-requires
 select-requires c =
-    let s = c in
-    let g = s.args in record {
-      stored = stored g.archive.now g.l s.requires.opened;
-      d_bound = (omega (arith, s.requires.document_lt_documents.0, documents_fit g.archive.now g.l s.requires.opened), s.requires.document_lt_documents.1);
-    }
+    let g = c.args in
+    let fit = documents_fit g.archive.now.bytes.now g.archive.now.layout g.archive.now.opened in
+    record { d_bound = (rw (c.tree.ensures.1) (omega (arith, c.requires.0, fit)), c.requires.1) }
 
 pub returns : goal.returns
 returns c =
-    let s = c in
-    let g = s.args in
-    c.select.ensures ∙ ap (λ (xs : List ℕ). select g.document xs g.j) (entries-are g.archive.now g.l s.requires.opened)
+    let g = c.args in
+    c.select.ensures ∙ ap (λ (xs : List ℕ). select g.document xs g.j) (tree_entries g.archive.now.bytes.now g.archive.now.layout g.archive.now.opened c.tree.ensures)

@@ -3,14 +3,21 @@ use Rattle.model.specs.Outcome.{Outcome}
 use Rattle.model.specs.Opening.{contents}
 use Rattle.model.specs.Queries.{Bounds, of_entries}
 use Rattle.archive_ranges.proofs.RangeEnds.{entry_bounds_lem}
+use Rattle.refusals.proofs.Outcomes.{passed_on}
 use Rattle.queries.specs.Ranges.{quantile_of}
 use Rattle.queries.proofs.Results.{quantile_is}
 use Rattle.queries.proofs.quantiles.quantile_opened.Goals as goal
 
+pub returns-in_err-entry_range : goal.returns-in_err-entry_range
+returns-in_err-entry_range c =
+    let g = c.args in
+    passed_on _ c.from_residual.result c.in_err-entry_range.field-0.0 c.from_residual.ensures.1
+    (ap (λ (ends : Outcome Bounds). quantile_of (contents g.archive.now.bytes.now) ends g.r) (c.in_err-entry_range.ensures.0 ∙ entry_bounds_lem g.archive.now.bytes.now g.archive.now.layout g.archive.now.opened g.a g.b)
+    ∙ quantile_is g.archive.now.bytes.now g.archive.now.layout g.archive.now.opened (of_entries g.a g.b) g.r)
+
 pub returns : goal.returns
 returns c =
-    let s = c in
-    let g = s.args in
+    let g = c.args in
     c.quantile_of.ensures
-    ∙ ap (λ (ends : Outcome Bounds). quantile_of (contents g.archive.now) ends g.r) (c.entry_range.ensures.0 ∙ entry_bounds_lem g.archive.now g.l s.requires g.a g.b)
-    ∙ quantile_is g.archive.now g.l s.requires (of_entries g.a g.b) g.r
+    ∙ ap (λ (ends : Outcome Bounds). quantile_of (contents g.archive.now.bytes.now) ends g.r) (c.in_ok-entry_range.ensures.0 ∙ entry_bounds_lem g.archive.now.bytes.now g.archive.now.layout g.archive.now.opened g.a g.b)
+    ∙ quantile_is g.archive.now.bytes.now g.archive.now.layout g.archive.now.opened (of_entries g.a g.b) g.r

@@ -13,7 +13,7 @@ pub returns-then-p : goal.returns-then-p
 returns-then-p t c =
     let s = c in
     let g = s.args in
-    counts_none g.bytes.now g.t g.set.now g.j s.requires.under.0 g.p c.if-p.true
+    counts_none g.tree.now.bytes.now g.tree.now.levels g.set.now g.j s.requires.under.0 g.p c.if-p.true
 
 pub overflow_cast-first : goal.overflow_cast-first
 overflow_cast-first t c = omega (arith, (c.type_inv.set 0).fits)
@@ -21,7 +21,7 @@ overflow_cast-first t c = omega (arith, (c.type_inv.set 0).fits)
 pub lowest-depth-requires : goal.lowest-depth-requires
 lowest-depth-requires t c =
     let s = c in
-    (s.requires.stored.low, s.requires.under.0)
+    (s.args.tree.now.stored.low, s.requires.under.0)
 
 pub overflow_sub-height : goal.overflow_sub-height
 overflow_sub-height t c = c.lowest-depth.ensures.under.deep
@@ -29,7 +29,7 @@ overflow_sub-height t c = c.lowest-depth.ensures.under.deep
 pub overflow_shl-height : goal.overflow_shl-height
 overflow_shl-height t c =
     let s = c in
-    omega (arith, s.requires.stored.low)
+    omega (arith, s.args.tree.now.stored.low)
 
 pub count_under-requires : goal.count_under-requires
 count_under-requires t c =
@@ -37,8 +37,7 @@ count_under-requires t c =
     let g = s.args in
     let low = c.lowest-depth in
     let u = s.requires.under.0 in record {
-      stored = s.requires.stored;
-      j_le_k = (low.ensures.below, low.ensures.under.deep, u.fit 0 u.some, reached_ordered g.bytes.now g.t g.set.now g.j g.p s.requires.under.1);
+      j_le_k = (low.ensures.below, low.ensures.under.deep, u.fit 0 u.some, reached_ordered g.tree.now.bytes.now g.tree.now.levels g.set.now g.j g.p s.requires.under.1);
     }
 
 pub returns-then-set-height : goal.returns-then-set-height
@@ -46,8 +45,8 @@ returns-then-set-height t c =
     let s = c in
     let g = s.args in
     let low = c.lowest-depth in
-    counts_all g.bytes.now g.t g.set.now g.j s.requires.under.0 g.p low.result c.count_under.result low.ensures.under
-    (c.if-set-height.true ∙ shl_one_word (g.t.height - low.result) (omega (arith, s.requires.stored.low))) c.count_under.ensures
+    counts_all g.tree.now.bytes.now g.tree.now.levels g.set.now g.j s.requires.under.0 g.p low.result c.count_under.result low.ensures.under
+    (c.if-set-height.true ∙ shl_one_word (g.tree.now.levels.height - low.result) (omega (arith, s.args.tree.now.stored.low))) c.count_under.ensures
 
 pub descend-node-requires : goal.descend-node-requires
 descend-node-requires t c =
@@ -55,8 +54,7 @@ descend-node-requires t c =
     let g = s.args in
     let low = c.lowest-depth in
     let u = s.requires.under.0 in record {
-      stored = s.requires.stored;
-      j_le_k = (low.ensures.below, low.ensures.under.deep, u.fit 0 u.some, reached_ordered g.bytes.now g.t g.set.now g.j g.p s.requires.under.1);
+      j_le_k = (low.ensures.below, low.ensures.under.deep, u.fit 0 u.some, reached_ordered g.tree.now.bytes.now g.tree.now.levels g.set.now g.j g.p s.requires.under.1);
     }
 
 pub halve_place-two-requires : goal.halve_place-two-requires
@@ -64,10 +62,9 @@ halve_place-two-requires t c =
     let s = c in
     let g = s.args in
     let low = c.lowest-depth in
-    let short : length g.set.now ≡ 2 ^ (g.t.height - low.result) → ⊥ =
-    λ e. c.if-set-height.false (e ∙ sym (shl_one_word (g.t.height - low.result) (omega (arith, s.requires.stored.low)))) in record {
-      stored = s.requires.stored;
-      j_lt_height = (lowest_inner g.bytes.now g.t g.set.now g.j g.p s.requires.under.1 low.result low.ensures short, c.descend-node.ensures.1);
+    let short : length g.set.now ≡ 2 ^ (g.tree.now.levels.height - low.result) → ⊥ =
+    λ e. c.if-set-height.false (e ∙ sym (shl_one_word (g.tree.now.levels.height - low.result) (omega (arith, s.args.tree.now.stored.low)))) in record {
+      j_lt_height = (lowest_inner g.tree.now.bytes.now g.tree.now.levels g.set.now g.j g.p s.requires.under.1 low.result low.ensures short, c.descend-node.ensures.1);
     }
 
 pub overflow_sub-height-2 : goal.overflow_sub-height-2
@@ -75,19 +72,19 @@ overflow_sub-height-2 t c =
     let s = c in
     let g = s.args in
     let low = c.lowest-depth in
-    let short : length g.set.now ≡ 2 ^ (g.t.height - low.result) → ⊥ =
-    λ e. c.if-set-height.false (e ∙ sym (shl_one_word (g.t.height - low.result) (omega (arith, s.requires.stored.low)))) in
-    omega (arith, lowest_inner g.bytes.now g.t g.set.now g.j g.p s.requires.under.1 low.result low.ensures short)
+    let short : length g.set.now ≡ 2 ^ (g.tree.now.levels.height - low.result) → ⊥ =
+    λ e. c.if-set-height.false (e ∙ sym (shl_one_word (g.tree.now.levels.height - low.result) (omega (arith, s.args.tree.now.stored.low)))) in
+    omega (arith, lowest_inner g.tree.now.bytes.now g.tree.now.levels g.set.now g.j g.p s.requires.under.1 low.result low.ensures short)
 
 pub front_size-size-requires : goal.front_size-size-requires
 front_size-size-requires t c =
     let s = c in
-    (s.requires.under.0.some, omega (arith, s.requires.stored.low))
+    (s.requires.under.0.some, omega (arith, s.args.tree.now.stored.low))
 
 pub overflow_add-depth : goal.overflow_add-depth
 overflow_add-depth t c =
     let s = c in
-    omega (arith, c.lowest-depth.ensures.under.deep, s.requires.stored.low)
+    omega (arith, c.lowest-depth.ensures.under.deep, s.args.tree.now.stored.low)
 
 pub slice_bounds-rank_node-end : goal.slice_bounds-rank_node-end
 slice_bounds-rank_node-end t c =
@@ -99,30 +96,27 @@ rank_node-zeros-requires t c =
     let s = c in
     let g = s.args in
     let low = c.lowest-depth in
-    let short : length g.set.now ≡ 2 ^ (g.t.height - low.result) → ⊥ =
-    λ e. c.if-set-height.false (e ∙ sym (shl_one_word (g.t.height - low.result) (omega (arith, s.requires.stored.low)))) in
+    let short : length g.set.now ≡ 2 ^ (g.tree.now.levels.height - low.result) → ⊥ =
+    λ e. c.if-set-height.false (e ∙ sym (shl_one_word (g.tree.now.levels.height - low.result) (omega (arith, s.args.tree.now.stored.low)))) in
     let node = c.descend-node in
     let two = c.halve_place-two in
     let part = c.front_size-size in
-    let inner = lowest_inner g.bytes.now g.t g.set.now g.j g.p s.requires.under.1 low.result low.ensures short in (
+    let inner = lowest_inner g.tree.now.bytes.now g.tree.now.levels g.set.now g.j g.p s.requires.under.1 low.result low.ensures short in (
       omega (arith, s.decreases, inner, low.ensures.below),
-      (
-        s.requires.stored,
-        front-asked g.bytes.now g.t g.set.now g.j g.p s.requires.under.1 low.result low.ensures short node.result node.ensures.0
-            two.result two.ensures part.result part.ensures,
-      ),
+      front-asked g.tree.now.bytes.now g.tree.now.levels g.set.now g.j g.p s.requires.under.1 low.result low.ensures short node.result node.ensures.0
+          two.result two.ensures part.result part.ensures,
     )
 
 pub overflow_add-depth-2 : goal.overflow_add-depth-2
 overflow_add-depth-2 t c =
     let s = c in
-    omega (arith, c.lowest-depth.ensures.under.deep, s.requires.stored.low)
+    omega (arith, c.lowest-depth.ensures.under.deep, s.args.tree.now.stored.low)
 
 pub offset_bounds-set-size : goal.offset_bounds-set-size
 offset_bounds-set-size t c =
     let s = c in
     let g = s.args in
-    omega (arith, c.front_size-size.ensures.inside, under_few g.t.height g.j g.set.now s.requires.under.0 s.requires.stored.low)
+    omega (arith, c.front_size-size.ensures.inside, under_few g.tree.now.levels.height g.j g.set.now s.requires.under.0 s.args.tree.now.stored.low)
 
 pub slice_bounds-rank_node-count : goal.slice_bounds-rank_node-count
 slice_bounds-rank_node-count t c = c.front_size-size.ensures.inside
@@ -132,18 +126,15 @@ rank_node-ones-requires t c =
     let s = c in
     let g = s.args in
     let low = c.lowest-depth in
-    let short : length g.set.now ≡ 2 ^ (g.t.height - low.result) → ⊥ =
-    λ e. c.if-set-height.false (e ∙ sym (shl_one_word (g.t.height - low.result) (omega (arith, s.requires.stored.low)))) in
+    let short : length g.set.now ≡ 2 ^ (g.tree.now.levels.height - low.result) → ⊥ =
+    λ e. c.if-set-height.false (e ∙ sym (shl_one_word (g.tree.now.levels.height - low.result) (omega (arith, s.args.tree.now.stored.low)))) in
     let node = c.descend-node in
     let two = c.halve_place-two in
     let part = c.front_size-size in
-    let inner = lowest_inner g.bytes.now g.t g.set.now g.j g.p s.requires.under.1 low.result low.ensures short in (
+    let inner = lowest_inner g.tree.now.bytes.now g.tree.now.levels g.set.now g.j g.p s.requires.under.1 low.result low.ensures short in (
       omega (arith, s.decreases, inner, low.ensures.below),
-      (
-        s.requires.stored,
-        rest-asked g.bytes.now g.t g.set.now g.j g.p s.requires.under.1 low.result low.ensures short node.result node.ensures.0
-            two.result two.ensures part.result part.ensures,
-      ),
+      rest-asked g.tree.now.bytes.now g.tree.now.levels g.set.now g.j g.p s.requires.under.1 low.result low.ensures short node.result node.ensures.0
+          two.result two.ensures part.result part.ensures,
     )
 
 pub overflow_add-result : goal.overflow_add-result
@@ -151,8 +142,8 @@ overflow_add-result t c =
     let s = c in
     let g = s.args in
     let low = c.lowest-depth in
-    let short : length g.set.now ≡ 2 ^ (g.t.height - low.result) → ⊥ =
-    λ e. c.if-set-height.false (e ∙ sym (shl_one_word (g.t.height - low.result) (omega (arith, s.requires.stored.low)))) in
+    let short : length g.set.now ≡ 2 ^ (g.tree.now.levels.height - low.result) → ⊥ =
+    λ e. c.if-set-height.false (e ∙ sym (shl_one_word (g.tree.now.levels.height - low.result) (omega (arith, s.args.tree.now.stored.low)))) in
     let node = c.descend-node in
     let two = c.halve_place-two in
     let part = c.front_size-size in
@@ -160,8 +151,8 @@ overflow_add-result t c =
     let ones = c.rank_node-ones in
     omega (
       arith,
-      s.requires.stored.few,
-      parts_fit g.bytes.now g.t g.set.now g.j g.p s.requires.under.1 low.result low.ensures short node.result node.ensures.0
+      s.args.tree.now.stored.few,
+      parts_fit g.tree.now.bytes.now g.tree.now.levels g.set.now g.j g.p s.requires.under.1 low.result low.ensures short node.result node.ensures.0
           two.result two.ensures part.result part.ensures zeros.result ones.result zeros.ensures ones.ensures,
     )
 
@@ -170,12 +161,12 @@ returns t c =
     let s = c in
     let g = s.args in
     let low = c.lowest-depth in
-    let short : length g.set.now ≡ 2 ^ (g.t.height - low.result) → ⊥ =
-    λ e. c.if-set-height.false (e ∙ sym (shl_one_word (g.t.height - low.result) (omega (arith, s.requires.stored.low)))) in
+    let short : length g.set.now ≡ 2 ^ (g.tree.now.levels.height - low.result) → ⊥ =
+    λ e. c.if-set-height.false (e ∙ sym (shl_one_word (g.tree.now.levels.height - low.result) (omega (arith, s.args.tree.now.stored.low)))) in
     let node = c.descend-node in
     let two = c.halve_place-two in
     let part = c.front_size-size in
     let zeros = c.rank_node-zeros in
     let ones = c.rank_node-ones in
-    parts_count g.bytes.now g.t g.set.now g.j g.p s.requires.under.1 low.result low.ensures short node.result node.ensures.0
+    parts_count g.tree.now.bytes.now g.tree.now.levels g.set.now g.j g.p s.requires.under.1 low.result low.ensures short node.result node.ensures.0
     two.result two.ensures part.result part.ensures zeros.result ones.result zeros.ensures ones.ensures
