@@ -14,7 +14,7 @@ use borrow.Author.Tests.{eq-eqb, ne_eqb, eqb-true, eqb-false}
 use Rattle.bits.specs.Bits.{sum}
 use Rattle.bits.proofs.Tests.{look, le_or_lt}
 use Rattle.wavelet.specs.declared.Span.{Span}
-use Rattle.conjunction.specs.declared.common.Node.{Node}
+use Rattle.paths.specs.declared.Node.{Node}
 use Rattle.paths.specs.Paths.{Right, Held}
 use Rattle.paths.proofs.Frames.{held_by}
 use Rattle.conjunction.specs.Conjunction.{next_common, next_is, no_further}

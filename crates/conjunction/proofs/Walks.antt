@@ -5,7 +5,7 @@ use native.Mathlib.Nat.{suc-mul, zero-add}
 use mathlib.Core.Path.{◌≡◌, refl, sym, ap, ◌∙◌, subst}
 use mathlib.Core.List.{List, [], ◌∷◌, ◌++◌, map, append-nil}
 use mathlib.Core.Bool.{true}
-use lib.ListN.{length, take, drop, length-map, length-take, length-drop}
+use lib.ListN.{length, drop, length-map, length-take, length-drop}
 use lib.Seq.{sets, length-sets}
 use lib.Dec.{ltb, eqb}
 use borrow.Author.Tests.{ltb-true}
@@ -24,9 +24,7 @@ use Rattle.archive.proofs.Opened.{fitting, entries-size, entries_within}
 use Rattle.answers.specs.Written.{Written}
 use Rattle.answers.proofs.Occurrences.{keep_none, occurs_lt}
 use Rattle.answers.proofs.Stores.{written_none, written-pair, written_both, written-front}
-use Rattle.paths.specs.declared.Terms.{Terms}
-use Rattle.paths.specs.Paths.{Asked}
-use Rattle.paths.proofs.TermSpans.{size_is}
+use Rattle.paths.specs.declared.query.Query.{Query}
 use Rattle.conjunction.specs.Conjunction.{next_common, next_is, no_further}
 use Rattle.conjunction.proofs.Commons.{matches, Passed, next_first, next_none}
 use mir.Val.{Fits}
@@ -151,16 +149,24 @@ matched_lt lib N (t ∷ ts) d w l e =
     occurs_lt N d (under lib t) (within_part N (term_start lib t) (term_start lib (suc t)) lib.entries w)
     (ltb-true 0 (occurrences d (under lib t)) (and_both (ltb 0 (occurrences d (under lib t))) (matches (counts_under lib ts) d) e).0)
 
-module _ (bytes : List ℕ) (l : Layout) (o : Opened bytes l) (q : Terms) (a : Asked l.terms q) (eight : length q.numbers ≡ 8) where
-  pub turn : (at d c : ℕ) → next_common (counts_under (contents bytes) (take q.size q.numbers)) l.levels.height at ≡ next_is d c → Turn l at d c
+module _ (q : Query) where
+  abbrev bytes : List ℕ
+  bytes = q.archive.bytes.now
+
+  abbrev l : Layout
+  l = q.archive.layout
+
+  abbrev o : Opened bytes l
+  o = q.archive.opened
+
+  pub turn : (at d c : ℕ) → next_common (counts_under (contents bytes) q.terms.now) l.levels.height at ≡ next_is d c → Turn l at d c
   turn at d c e =
-      let ts : List ℕ = take q.size q.numbers in
-      let n = size_is bytes l o q a eight in
+      let ts : List ℕ = q.terms.now in
       let r = next_first (counts_under (contents bytes) ts) l.levels.height at d c e in
-      let few : length ts ≤ 8 = let f = a.few in omega arith in
+      let few : length ts ≤ 8 = q.chosen.few in
       let small : length (contents bytes).entries ≤ 65535 = omega (arith, entries-size bytes l o, (fitting bytes l o).entries) in
       record {
         on = r.from;
-        lt = matched_lt (contents bytes) l.documents ts d (entries_within bytes l o) (let s = a.some in omega arith) r.matched;
+        lt = matched_lt (contents bytes) l.documents ts d (entries_within bytes l o) q.chosen.some r.matched;
         few = omega (arith, r.count, sum_few (contents bytes) ts d 65535 small);
       }

@@ -1,10 +1,9 @@
 -- The next document that several terms have in common.
-use Rattle.std.specs.Prelude.{ℕ, ◌-◌, ◌^◌, List, [], ◌∷◌, cond, ltb}
+use Rattle.std.specs.Prelude.{ℕ, ◌-◌, ◌^◌, List, [], ◌∷◌, Option, Some, None, cond, ltb}
 use Rattle.bits.specs.Sequences.{all, up_from}
 use Rattle.bits.specs.Bits.{sum}
 use Rattle.model.specs.Lists.{keep}
-use Rattle.conjunction.specs.declared.common.Next.{Next}
-use Rattle.conjunction.specs.declared.common.Next.TheVariants.{Document, Nothing}
+use Rattle.conjunction.specs.declared.common.Common.{Common}
 
 -- the sum of some counts; 0 where one of them is 0
 abbrev pub common_count : List ℕ → ℕ
@@ -16,9 +15,9 @@ pub data NextDocument : Type 0 where
   no_further : NextDocument
 
 -- document 01's values for each case of the code's answer
-abbrev pub next_of : Next → NextDocument
-next_of (Document d c) = next_is d c
-next_of Nothing = no_further
+abbrev pub next_of : Option Common → NextDocument
+next_of (Some c) = next_is c.document c.count
+next_of None = no_further
 
 -- the first of some documents, with the sum of its counts
 abbrev pub first_with : (ℕ → List ℕ) → List ℕ → NextDocument

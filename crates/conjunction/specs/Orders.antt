@@ -1,10 +1,9 @@
 -- Where the search for common documents stands, and the order of its nodes.
-use Rattle.std.specs.Prelude.{ℕ, zero, suc, ◌+◌, ◌/◌, ◌%◌, List, cond, eqb}
+use Rattle.std.specs.Prelude.{ℕ, zero, suc, ◌+◌, ◌/◌, ◌%◌, List, Option, Some, None, cond, eqb}
 use Rattle.wavelet.specs.declared.Span.{Span}
 use Rattle.paths.specs.Paths.{Held}
-use Rattle.conjunction.specs.declared.common.Next.{Next}
-use Rattle.conjunction.specs.declared.common.Next.TheVariants.{Document, Nothing}
-use Rattle.conjunction.specs.declared.common.Node.{Node}
+use Rattle.paths.specs.declared.Node.{Node}
+use Rattle.conjunction.specs.declared.common.Common.{Common}
 
 module _ (span : ℕ → ℕ → ℕ → Span) (size : ℕ) (path : List ℕ) where
   -- where documents before `from` have been searched: at the root, or at the leaf before
@@ -13,9 +12,9 @@ module _ (span : ℕ → ℕ → ℕ → Span) (size : ℕ) (path : List ℕ) wh
   Ready h (suc d) = Held span size path h d
 
   -- at the leaf that was found
-  abbrev pub HeldAt : ℕ → Next → Type 0
-  HeldAt h (Document d c) = Held span size path h d
-  HeldAt h Nothing = Unit {0}
+  abbrev pub HeldAt : ℕ → Option Common → Type 0
+  HeldAt h (Some c) = Held span size path h c.document
+  HeldAt h None = Unit {0}
 
 -- ---- the order of the search
 

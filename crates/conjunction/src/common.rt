@@ -3,26 +3,18 @@ ghost use Rattle.std.specs.Prelude.{◌≡◌, map, ◌+◌, ◌-◌, ◌*◌, �
 ghost use Rattle.bits.specs.Sequences.{below};
 ghost use Rattle.model.specs.Opening.{contents};
 ghost use Rattle.model.specs.Queries.{counts_under};
-ghost use Rattle.archive.specs.Layout.{Opened};
-ghost use Rattle.paths.specs.Paths.{terms_of, Asked, count_at, term_span};
+ghost use Rattle.paths.specs.Paths.{count_at};
+ghost use Rattle.paths.specs.Query.{size, spans};
 ghost use Rattle.conjunction.specs.Conjunction.{common_count, next_of, next_common};
 ghost use Rattle.conjunction.specs.Orders.{Ready, HeldAt, after_of, resume_of};
 
-use archive::Layout;
-use paths::{Terms, frame_of, open_node};
+use paths::{Node, Query, frame_of};
 
-// What the search for the next document answers: the document with the sum of its counts, or nothing.
+// A document that all terms have, with the sum of its counts.
 #[derive(Clone, Copy)]
-pub enum Next {
-    Document { document: usize, count: usize },
-    Nothing,
-}
-
-// A node of the tree: its level, and its number there.
-#[derive(Clone, Copy)]
-pub struct Node {
-    pub level: usize,
-    pub number: usize,
+pub struct Common {
+    pub document: usize,
+    pub count: usize,
 }
 
 // The sum of the counts in a frame, 0 where a term has no entry.
@@ -31,8 +23,7 @@ fn common_count(path: &[u32], frame: usize, size: usize) -> usize
     ensures { result ≡ common_count (map (count_at path.now frame) (below size)) }
 {
     let mut sum: usize = 0;
-    let mut k: usize = 0;
-    while k < size {
+    for k in 0..size {
         let pair = 2 * (frame + 1 + k);
         let lo = path[pair] as usize;
         let hi = path[pair + 1] as usize;
@@ -40,7 +31,6 @@ fn common_count(path: &[u32], frame: usize, size: usize) -> usize
             return 0;
         }
         sum += hi - lo;
-        k += 1;
     }
     sum
 }
@@ -78,35 +68,34 @@ fn resume(height: usize, from: usize) -> Node
 }
 
 // The next document from `from` upward. The path is where the search for the one before ended, and then where this one ends.
-pub fn next_common(archive: &[u8], l: Layout, q: Terms, from: usize, path: &mut [u32]) -> Next
-    requires opened { Opened archive.now l }
-    requires asked { Asked l.terms q × (length path.old ≡ 468) × (from ≤ 2 ^ l.levels.height) }
-    requires ready { Ready (term_span archive.now l q) q.size path.old l.levels.height from }
-    ensures { (next_of result ≡ next_common (counts_under (contents archive.now) (terms_of q)) l.levels.height from)
-        × HeldAt (term_span archive.now l q) q.size path.new l.levels.height result }
+pub fn next_common(query: &Query<'_, '_>, from: usize, path: &mut [u32]) -> Option<Common>
+    requires path_len { (length path.old ≡ 468) × (from ≤ 2 ^ query.now.archive.layout.levels.height) }
+    requires ready { Ready (spans query.now) (size query.now) path.old query.now.archive.layout.levels.height from }
+    ensures { (next_of result ≡ next_common (counts_under (contents query.now.archive.bytes.now) query.now.terms.now) query.now.archive.layout.levels.height from)
+        × HeldAt (spans query.now) (size query.now) path.new query.now.archive.layout.levels.height result }
 {
-    let size = q.size as usize;
-    let height = l.levels.height;
+    let height = query.archive.layout.levels.height;
     let mut node = resume(height, from);
+    // from node to node: no index is counted
     while node.number >> node.level == 0 {
         let level = node.level;
         let number = node.number;
-        let count = common_count(path, frame_of(level, number), size);
+        let count = common_count(path, frame_of(level, number), query.terms.len());
         if count < 1 {
             node = after(level, number);
         } else if level == height {
-            return Next::Document {
+            return Some(Common {
                 document: number,
                 count,
-            };
+            });
         } else {
             // The zero half is tried first; what comes after it is the one half.
-            open_node(archive, l, q, level, number, path);
+            query.open_node(level, number, path);
             node = Node {
                 level: level + 1,
                 number: 2 * number,
             };
         }
     }
-    Next::Nothing
+    None
 }

@@ -1,27 +1,23 @@
 -- The terms that were kept so far, one given term more, and what a question asks of the kept ones.
-use Prim.Native.Nat.{ℕ, zero, suc, ◌+◌, ◌≤◌, ◌<◌}
+use Prim.Native.Nat.{ℕ, ◌+◌, ◌≤◌, ◌<◌}
 use native.Mathlib.Omega.{arith}
 use native.Mathlib.Numerals.{add-one}
-use mathlib.Core.Path.{◌≡◌, refl, sym, ap, ◌∙◌, subst}
+use mathlib.Core.Path.{◌≡◌, sym, ap, ◌∙◌, subst}
 use mathlib.Core.List.{List, [], ◌∷◌, ◌++◌, append-nil}
 use mathlib.Core.Bool.{Bool, true, false, cond}
 use lib.ListN.{length, get_or, take, set, length-set}
 use lib.Seq.{take-suc, take-suc-set}
 use lib.Dec.{eqb}
-use Rattle.model.specs.Lists.{any, Within}
-use Rattle.model.specs.Distinct.{distinct, Different}
-use Rattle.model.proofs.Distinct.{distinct_different, distinct_snoc, distinct_within}
-use Rattle.paths.specs.declared.Terms.{Terms}
-use Rattle.paths.specs.Paths.{terms_of, Asked}
+use Rattle.model.specs.Lists.{any}
+use Rattle.model.specs.Distinct.{distinct}
+use Rattle.model.proofs.Distinct.{distinct_snoc, distinct-length, distinct_within}
+use Rattle.paths.specs.Chosen.{Chosen}
 
 -- of the first i of the given terms, so many stand in the front of the numbers
 pub record Keeping (given : List ℕ) (i : ℕ) (numbers : List ℕ) (size : ℕ) : Type 0 where
   pub kept : take size numbers ≡ distinct (take i given)
   pub few : size ≤ i
   pub room : length numbers ≡ 8
-
-pub keeping_none : (given numbers : List ℕ) → length numbers ≡ 8 → Keeping given 0 numbers 0
-keeping_none given numbers r = record { kept = refl; few = omega arith; room = r }
 
 module _ (given : List ℕ) (i : ℕ) (inside : i < length given) where
   abbrev stands : Bool
@@ -52,23 +48,15 @@ module _ (given : List ℕ) (i : ℕ) (inside : i < length given) where
       room = k.room;
     }
 
--- ---- the kept terms are different, and one to eight terms of the archive where the given ones are
+-- ---- the kept terms are one to eight terms of the archive where the given ones are
 
-nonempty : (n : ℕ) (xs : List ℕ) → 1 ≤ n → 1 ≤ length xs → 1 ≤ length (distinct (take n xs))
-nonempty zero xs l m = absurd (omega arith)
-nonempty (suc n) [] l m = absurd (omega arith)
-nonempty (suc n) (x ∷ xs) l m = omega arith
+nonempty : (xs : List ℕ) → 1 ≤ length xs → 1 ≤ length (distinct xs)
+nonempty [] l = absurd (omega arith)
+nonempty (x ∷ xs) l = omega arith
 
-length_some : (n : ℕ) (xs : List ℕ) → 1 ≤ length (take n xs) → 1 ≤ n
-length_some zero xs l = absurd (omega arith)
-length_some (suc n) xs l = omega arith
-
-pub different_distinct : (r : Terms) (given : List ℕ) → terms_of r ≡ distinct given → Different (terms_of r)
-different_distinct r given e = subst Different (sym e) (distinct_different given)
-
-pub asked-distinct : (W : ℕ) (q r : Terms) → length q.numbers ≡ 8 → Asked W q → terms_of r ≡ distinct (terms_of q) → r.size ≤ q.size → Asked W r
-asked-distinct W q r eight a e l = record {
-  some = length_some r.size r.numbers (subst (λ (ts : List ℕ). 1 ≤ length ts) (sym e) (nonempty q.size q.numbers a.some (omega arith)));
-  few = let f = a.few in omega arith;
-  known = subst (Within W) (sym e) (distinct_within W (terms_of q) a.known);
-}
+pub chosen_distinct : (W : ℕ) (given kept : List ℕ) → Chosen W given → kept ≡ distinct given → Chosen W kept
+chosen_distinct W given kept a e = subst (Chosen W) (sym e) (record {
+  some = nonempty given a.some;
+  few = let f = a.few in omega (arith, distinct-length given);
+  known = distinct_within W given a.known;
+})

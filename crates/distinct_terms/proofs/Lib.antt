@@ -1,3 +1,2 @@
--- Laws of distinct_terms: the terms that stand before a place, the terms that stand once, and what is asked of them.
-pub mod Earlier
+-- Laws of distinct_terms: the terms that stand once, and what is asked of them.
 pub mod Keeping

@@ -1,28 +1,29 @@
 -- Refusals 10 and 11 of the terms of a question, whatever it answers otherwise.
-use Prim.Native.Nat.{ℕ, ◌≤◌, ◌<◌}
-use mathlib.Core.Path.{◌≡◌}
+use Prim.Native.Nat.{ℕ}
+use mathlib.Core.Path.{◌≡◌, refl, ap}
 use mathlib.Core.List.{List}
-use mathlib.Core.Bool.{true, false, ◌||◌}
+use mathlib.Core.Bool.{Bool, true, false, ◌||◌}
 use lib.ListN.{take}
 use lib.Dec.{leb, ltb, eqb}
-use borrow.Author.Tests.{lt-ltb, le-ltb, eq-eqb, ne_eqb}
-use Rattle.bits.proofs.Tests.{or_right}
 use Rattle.model.specs.Lists.{any}
-use Rattle.model.specs.Outcome.{Outcome, refused, refuse}
+use Rattle.model.specs.Outcome.{Outcome, answered, refused, refuse}
+use Rattle.paths.specs.Chosen.{asking}
 
-module _ {A : Type 0} (W : ℕ) (numbers : List ℕ) (size : ℕ) (rest : Outcome A) where
-  abbrev pub asking : Outcome A
-  asking = refuse 10 (eqb size 0 || ltb 8 size) (refuse 11 (any (leb W) (take size numbers)) rest)
+module _ {A B : Type 0} (W : ℕ) (numbers : List ℕ) (size : ℕ) (x : B) (rest : Outcome A) where
+  -- refused there, refused here
+  pub asking_refused : (number : ℕ) → refused number ≡ asking W numbers size (answered x) → refused number ≡ asking W numbers size rest
+  asking_refused number = go (eqb size 0 || ltb 8 size) (any (leb W) (take size numbers))
+    where
+      go : (few known : Bool) → ◌≡◌ {A = Outcome B} (refused number) (refuse 10 few (refuse 11 known (answered x))) → refused number ≡ refuse 10 few (refuse 11 known rest)
+      go true known e = let n : number ≡ 10 = cc in ap refused n
+      go false true e = let n : number ≡ 11 = cc in ap refused n
+      go false false e = cc
 
-  pub asking_none : size ≡ 0 → refused 10 ≡ asking
-  asking_none h = rw (eq-eqb size 0 h)
-
-  pub asking-many : 8 < size → refused 10 ≡ asking
-  asking-many h = rw (or_right (eqb size 0) (ltb 8 size) (lt-ltb 8 size h))
-
-  module _ (h : size ≡ 0 → ⊥) (k : size ≤ 8) where
-    pub asking-missing : any (leb W) (take size numbers) ≡ true → refused 11 ≡ asking
-    asking-missing e = rw (ne_eqb size 0 h, le-ltb 8 size k, e)
-
-    pub asking_known : any (leb W) (take size numbers) ≡ false → rest ≡ asking
-    asking_known e = rw (ne_eqb size 0 h, le-ltb 8 size k, e)
+  -- neither of them, there or here
+  pub asking_known : (y : B) → answered y ≡ asking W numbers size (answered x) → rest ≡ asking W numbers size rest
+  asking_known y = go (eqb size 0 || ltb 8 size) (any (leb W) (take size numbers))
+    where
+      go : (few known : Bool) → answered y ≡ refuse 10 few (refuse 11 known (answered x)) → rest ≡ refuse 10 few (refuse 11 known rest)
+      go true known e = cc
+      go false true e = cc
+      go false false e = refl

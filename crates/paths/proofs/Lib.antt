@@ -8,4 +8,5 @@ pub mod Roots
 pub mod NodeSteps
 pub mod Passing
 pub mod PassSteps
+pub mod Trees
 pub mod Ways

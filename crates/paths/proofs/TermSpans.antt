@@ -3,8 +3,8 @@ use Prim.Native.Nat.{ℕ, suc, ◌-◌, ◌*◌, ◌+◌, ◌^◌, ◌≤◌, �
 use native.Mathlib.Omega.{arith}
 use mathlib.Core.Path.{◌≡◌, sym, ap, ◌∙◌, subst}
 use mathlib.Core.List.{List, map}
-use lib.ListN.{length, get_or, take, length-map}
-use lib.Seq.{length-take-le, get_or-take, ext_get_or}
+use lib.ListN.{length, get_or, length-map}
+use lib.Seq.{ext_get_or}
 use Rattle.bits.specs.Sequences.{below}
 use Rattle.bits.proofs.Tally.{length-up_from, get_or-map-below}
 use Rattle.model.specs.Lists.{part}
@@ -21,8 +21,9 @@ use Rattle.archive.specs.declared.Layout.{Layout}
 use Rattle.archive.specs.Layout.{Opened}
 use Rattle.archive.proofs.Opened.{entries-are, lengths_total, start_le}
 use Rattle.archive.proofs.TermTable.{term_start_mono}
-use Rattle.paths.specs.declared.Terms.{Terms}
-use Rattle.paths.specs.Paths.{Asked, term_span}
+use Rattle.paths.specs.declared.query.Query.{Query}
+use Rattle.paths.specs.Query.{spans}
+use Rattle.paths.specs.Chosen.{Chosen}
 
 -- a list of numbers, one for each element, by its places
 pub by_places : (f : ℕ → ℕ) (c : ℕ → ℕ) (ts : List ℕ) → ((k : ℕ) → k < length ts → c k ≡ f (get_or ts k 0)) → map c (below (length ts)) ≡ map f ts
@@ -33,7 +34,22 @@ by_places f c ts e =
 
 -- ---- the terms of an opened archive
 
-module _ (bytes : List ℕ) (l : Layout) (o : Opened bytes l) (q : Terms) (a : Asked l.terms q) (eight : length q.numbers ≡ 8) where
+module _ (q : Query) where
+  abbrev bytes : List ℕ
+  bytes = q.archive.bytes.now
+
+  abbrev l : Layout
+  l = q.archive.layout
+
+  abbrev o : Opened bytes l
+  o = q.archive.opened
+
+  abbrev ts : List ℕ
+  ts = q.terms.now
+
+  abbrev a : Chosen l.terms ts
+  a = q.chosen
+
   abbrev h : ℕ
   h = l.levels.height
 
@@ -41,27 +57,22 @@ module _ (bytes : List ℕ) (l : Layout) (o : Opened bytes l) (q : Terms) (a : A
   xs = entries_in bytes l.levels
 
   abbrev from : ℕ → ℕ
-  from k = term_start (contents bytes) (get_or q.numbers k 0)
+  from k = term_start (contents bytes) (get_or ts k 0)
 
   abbrev to : ℕ → ℕ
-  to k = term_start (contents bytes) (suc (get_or q.numbers k 0))
+  to k = term_start (contents bytes) (suc (get_or ts k 0))
 
-  pub size_is : length (take q.size q.numbers) ≡ q.size
-  size_is = length-take-le q.size q.numbers (let f = a.few in omega arith)
-
-  pub term_known : (k : ℕ) → k < q.size → get_or q.numbers k 0 < l.terms
-  term_known k m =
-      subst (λ (t : ℕ). t < l.terms) (get_or-take q.size q.numbers k 0 m)
-      (within_at l.terms (take q.size q.numbers) k a.known (let n = size_is in omega arith))
+  pub term_known : (k : ℕ) → k < length ts → get_or ts k 0 < l.terms
+  term_known k m = within_at l.terms ts k a.known m
 
   from-to : (k : ℕ) → from k ≤ to k
-  from-to k = term_start_mono (contents bytes) (get_or q.numbers k 0) (suc (get_or q.numbers k 0)) (omega arith)
+  from-to k = term_start_mono (contents bytes) (get_or ts k 0) (suc (get_or ts k 0)) (omega arith)
 
-  to_le : (k : ℕ) → k < q.size → to k ≤ l.levels.entries
-  to_le k m = start_le bytes l o (suc (get_or q.numbers k 0)) (term_known k m)
+  to_le : (k : ℕ) → k < length ts → to k ≤ l.levels.entries
+  to_le k m = start_le bytes l o (suc (get_or ts k 0)) (term_known k m)
 
   -- the root
-  pub root-span : (k : ℕ) → k < q.size → term_span bytes l q 0 0 k ≡ record { start = 0; lo = from k; hi = to k; end = l.levels.entries }
+  pub root-span : (k : ℕ) → k < length ts → spans q 0 0 k ≡ record { start = 0; lo = from k; hi = to k; end = l.levels.entries }
   root-span k m =
       let n = length-entries_in bytes l.levels in
       let t = to_le k m in
@@ -69,23 +80,23 @@ module _ (bytes : List ℕ) (l : Layout) (o : Opened bytes l) (q : Terms) (a : A
       span-root h xs (from k) (to k) (within_entries_in bytes l.levels) (omega arith) (omega arith)
       ∙ ap (λ (e : ℕ). record { start = 0; lo = from k; hi = to k; end = e }) n
 
-  pub span-order : (j number k : ℕ) → k < q.size → Ordered l.levels.entries (term_span bytes l q j number k)
+  pub span-order : (j number k : ℕ) → k < length ts → Ordered l.levels.entries (spans q j number k)
   span-order j number k m =
       let n = length-entries_in bytes l.levels in
       let t = to_le k m in
-      subst (λ (e : ℕ). Ordered e (term_span bytes l q j number k)) n (span-ordered h xs (from k) (to k) j number (from-to k) (omega arith))
+      subst (λ (e : ℕ). Ordered e (spans q j number k)) n (span-ordered h xs (from k) (to k) j number (from-to k) (omega arith))
 
   pub span-two : (j number k : ℕ) → j < h → number < 2 ^ j
-      → halves_of (level_of bytes l.levels j) (term_span bytes l q j number k) ≡ record { zero = term_span bytes l q (suc j) (2 * number) k; one = term_span bytes l q (suc j) (2 * number + 1) k }
+      → halves_of (level_of bytes l.levels j) (spans q j number k) ≡ record { zero = spans q (suc j) (2 * number) k; one = spans q (suc j) (2 * number + 1) k }
   span-two j number k m n =
       let e = length-entries_in bytes l.levels in
       let total = lengths_total bytes l o in
-      let first = sum-take_le (contents bytes).lengths (get_or q.numbers k 0) in
-      let last = sum-take_le (contents bytes).lengths (suc (get_or q.numbers k 0)) in
+      let first = sum-take_le (contents bytes).lengths (get_or ts k 0) in
+      let last = sum-take_le (contents bytes).lengths (suc (get_or ts k 0)) in
       span-halves h xs (from k) (to k) (within_entries_in bytes l.levels) (omega arith) (omega arith) j number m n
 
   -- the entries in a node
-  pub span-entries : (j number k : ℕ) → (term_span bytes l q j number k).hi - (term_span bytes l q j number k).lo ≡ count_in (under (contents bytes) (get_or q.numbers k 0)) (node (h - j) number)
+  pub span-entries : (j number k : ℕ) → (spans q j number k).hi - (spans q j number k).lo ≡ count_in (under (contents bytes) (get_or ts k 0)) (node (h - j) number)
   span-entries j number k =
       span-count h xs (from k) (to k) j number (from-to k)
       ∙ ap (λ (ys : List ℕ). count_in (part (from k) (to k) ys) (node (h - j) number)) (entries-are bytes l o)

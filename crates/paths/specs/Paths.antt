@@ -1,7 +1,6 @@
 -- The path of a search with several terms: frames of places in a list, one for each of the two halves of every level.
-use Rattle.std.specs.Prelude.{ℕ, zero, suc, ◌+◌, ◌-◌, ◌*◌, ◌/◌, ◌%◌, ◌≤◌, ◌<◌, ◌≡◌, List, [], ◌∷◌, cond, get_or, take, leb}
+use Rattle.std.specs.Prelude.{ℕ, zero, suc, ◌+◌, ◌-◌, ◌*◌, ◌/◌, ◌%◌, ◌<◌, ◌≡◌, List, [], ◌∷◌, cond, get_or, take, leb}
 use Rattle.std.proofs.lemmas.List.Edits.{sets}
-use Rattle.model.specs.Lists.{Within}
 use Rattle.model.specs.Opening.{contents}
 use Rattle.model.specs.Queries.{term_start}
 use Rattle.wavelet.specs.declared.Span.{Span}
@@ -10,18 +9,12 @@ use Rattle.wavelet.specs.declared.Ranked.{Ranked}
 use Rattle.wavelet.specs.Levels.{entries_in}
 use Rattle.wavelet.specs.Spans.{Ordered, span_of, span_in, halves_of}
 use Rattle.archive.specs.declared.Layout.{Layout}
-use Rattle.paths.specs.declared.Terms.{Terms}
+use Rattle.paths.specs.declared.terms.TermList.{TermList}
 use Rattle.paths.specs.declared.path.Sides.{Sides}
 
--- the terms that a question holds
-abbrev pub terms_of : Terms → List ℕ
+-- the terms that it holds
+abbrev pub terms_of : TermList → List ℕ
 terms_of q = take q.size q.numbers
-
--- one to eight terms, all of them among the W terms
-pub record Asked (W : ℕ) (q : Terms) : Type 0 where
-  pub some : 1 ≤ q.size
-  pub few : q.size ≤ 8
-  pub known : Within W (terms_of q)
 
 -- ---- frames
 
@@ -54,14 +47,18 @@ abbrev pub put_halves : Halves → ℕ → List ℕ → List ℕ
 put_halves two pair path =
     sets (sets path (2 * pair) (two.zero.lo ∷ two.zero.hi ∷ [])) (2 * (pair + 9)) (two.one.lo ∷ two.one.hi ∷ [])
 
+-- the bounds of both halves of a node, each as a range
+abbrev pub bounds_of : Ranked → Halves
+bounds_of node = record { zero = record { start = 0; lo = node.start; hi = node.middle; end = 0 }; one = record { start = 0; lo = node.middle; hi = node.end; end = 0 } }
+
 abbrev pub sides_of : Halves → Sides
 sides_of two = record { zero = two.zero.hi - two.zero.lo; one = two.one.hi - two.one.lo }
 
 -- the places of the k-th term in the node of a level
-abbrev pub term_span : List ℕ → Layout → Terms → ℕ → ℕ → ℕ → Span
-term_span bytes l q level number k =
-    span_of l.levels.height (entries_in bytes l.levels) (term_start (contents bytes) (get_or q.numbers k 0))
-    (term_start (contents bytes) (suc (get_or q.numbers k 0))) level number
+abbrev pub term_span : List ℕ → Layout → List ℕ → ℕ → ℕ → ℕ → Span
+term_span bytes l terms level number k =
+    span_of l.levels.height (entries_in bytes l.levels) (term_start (contents bytes) (get_or terms k 0))
+    (term_start (contents bytes) (suc (get_or terms k 0))) level number
 
 -- ---- a walk with all terms: the range of a term that has no entry in a node goes into both halves as it is
 
@@ -81,8 +78,8 @@ abbrev pub passed_of : (ℕ → ℕ → ℕ → Span) → ℕ → ℕ → ℕ �
 passed_of span zero number k = span 0 number k
 passed_of span (suc level) number k = passing (passed_of span level (number / 2) k) (span (suc level) number k)
 
-abbrev pub passed_span : List ℕ → Layout → Terms → ℕ → ℕ → ℕ → Span
-passed_span bytes l q = passed_of (term_span bytes l q)
+abbrev pub passed_span : List ℕ → Layout → List ℕ → ℕ → ℕ → ℕ → Span
+passed_span bytes l terms = passed_of (term_span bytes l terms)
 
 -- in order, unless the range is empty: its places say nothing then
 abbrev pub OrderedIfAny : ℕ → Span → Type 0

@@ -3,11 +3,13 @@
 // refusals, of different terms.
 #![tactic(auto)]
 
+mod asking;
 mod question;
 mod run;
 mod score;
 pub mod step;
 mod weigh;
 
+pub use asking::Asking;
 pub use question::{weighted, weighted_opened};
 pub use run::weighted_in;

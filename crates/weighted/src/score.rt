@@ -31,13 +31,11 @@ pub fn score_of(path: &[u32], frame: usize, weights: [u32; 8], size: usize) -> S
 {
     let mut score: usize = 0;
     let mut entries: usize = 0;
-    let mut k: usize = 0;
-    while k < size {
+    for k in 0..size {
         let count = count_at(path, frame, k);
         let weight = weights[k] as usize;
         score += weight * count;
         entries += count;
-        k += 1;
     }
     Score { score, entries }
 }

@@ -1,4 +1,4 @@
 -- Laws of weights, and of the walk that counts documents.
 pub mod Documents
-pub mod Doubling
+pub mod Fourths
 pub mod LastRow

@@ -1,20 +1,19 @@
 // The last row: a node of it has two documents, the zeros of a range are entries of one and the ones of the other.
 ghost use Rattle.std.specs.Prelude.{◌≡◌, ◌-◌, ◌≤◌, ◌<◌};
-ghost use Rattle.wavelet.specs.Levels.{Stored, level_of};
+ghost use Rattle.wavelet.specs.Levels.{level_of};
 ghost use Rattle.weights.specs.Documents.{of_two};
 
-use wavelet::{Levels, ones_between};
+use wavelet::Tree;
 
 // How many of the two documents have an entry from place lo of the last row up to but without hi.
-pub fn distinct_last(bytes: &[u8], t: Levels, j: usize, lo: usize, hi: usize) -> usize
-    requires stored { Stored bytes.now t }
-    requires j_lt_height { (j < t.height) × (lo ≤ hi) × (hi ≤ t.entries) }
-    ensures { (result ≡ of_two (level_of bytes.now t j) lo hi) × (result ≤ hi - lo) }
+pub fn distinct_last(tree: &Tree<'_>, j: usize, lo: usize, hi: usize) -> usize
+    requires { (j < tree.now.levels.height) × (lo ≤ hi) × (hi ≤ tree.now.levels.entries) }
+    ensures { (result ≡ of_two (level_of tree.now.bytes.now tree.now.levels j) lo hi) × (result ≤ hi - lo) }
 {
     let count = hi - lo;
     if count < 2 {
         return count;
     }
-    let high = ones_between(bytes, t, j, lo, hi);
+    let high = tree.ones_between(j, lo, hi);
     (0 < high) as usize + (high < count) as usize
 }

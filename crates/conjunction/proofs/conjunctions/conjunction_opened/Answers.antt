@@ -1,92 +1,71 @@
-use borrow.Author.Rules.{rules}
-use Prim.Native.Nat.{ℕ, ◌≤◌}
+use Prim.Native.Nat.{ℕ}
 use native.Mathlib.Omega.{arith}
-use mathlib.Core.Path.{◌≡◌, sym, ◌∙◌, subst}
+use mathlib.Core.Path.{◌≡◌, refl, sym, ap, ◌∙◌, subst}
 use mathlib.Core.List.{List}
-use mathlib.Core.Bool.{true, false}
-use lib.ListN.{length, take}
-use lib.Dec.{leb}
-use Rattle.model.specs.Lists.{any}
+use Rattle.model.specs.Outcome.{Outcome}
 use Rattle.model.specs.Opening.{contents}
+use Rattle.model.specs.Distinct.{distinct, Different}
+use Rattle.model.specs.Queries.{PairsResult, conjunction}
+use Rattle.model.proofs.Distinct.{distinct_different}
+use Rattle.archive.specs.declared.Layout.{Layout}
 use Rattle.archive.proofs.Opened.{fitting, documents-are}
-use Rattle.conjunction.proofs.Refusals.{terms_none, terms-many, terms-missing, terms-short, terms_answered}
-use Rattle.model.specs.Distinct.{distinct}
-use Rattle.model.specs.Queries.{conjunction}
 use Rattle.answers.specs.Written.{Lists}
-use Rattle.paths.specs.declared.Terms.{Terms}
-use Rattle.paths.specs.Paths.{terms_of, Asked}
-use Rattle.model.proofs.Format.Valid.{within_any}
-use Rattle.distinct_terms.proofs.Keeping.{asked-distinct, different_distinct}
+use Rattle.refusals.proofs.Outcomes.{passed_on}
+use Rattle.distinct_terms.proofs.Keeping.{chosen_distinct}
 use Rattle.conjunction.proofs.Walks.{found_le}
+use Rattle.conjunction.proofs.Refusals.{conjunction_refused, conjunction_short, conjunction_answered}
 use Rattle.conjunction.proofs.conjunctions.conjunction_opened.Goals as goal
 
-pub returns-then-q-eq0 : goal.returns-then-q-eq0
-returns-then-q-eq0 c =
-    let s = c in
-    let g = s.args in
-    terms_none g.archive.now g.l s.requires g.q.numbers g.q.size g.answers.now c.if-q-eq0.true
+pub returns-in_err-given : goal.returns-in_err-given
+returns-in_err-given c =
+    let a = c.args.archive.now in
+    let answer : Outcome ℕ → PairsResult = λ o. record { outcome = o; answers = c.args.answers.now } in
+    ap answer (passed_on _ c.from_residual.result c.in_err-given.field-0.0 c.from_residual.ensures.1 refl)
+    ∙ conjunction_refused a.bytes.now a.layout a.opened c.args.q.numbers c.args.q.size c.args.answers.now _ c.in_err-given.ensures.outcome
 
-pub returns-then-q-gt8 : goal.returns-then-q-gt8
-returns-then-q-gt8 c =
-    let s = c in
-    let g = s.args in
-    terms-many g.archive.now g.l s.requires g.q.numbers g.q.size g.answers.now c.if-q-gt8.true
+pub overflow_mul-archive : goal.overflow_mul-archive
+overflow_mul-archive c =
+    let a = c.args.archive.now in
+    omega (arith, (fitting a.bytes.now a.layout a.opened).documents)
 
-pub returns-then-term_missing : goal.returns-then-term_missing
-returns-then-term_missing c =
-    let s = c in
-    let g = s.args in
-    let e : any (leb g.l.terms) (take g.q.size g.q.numbers) ≡ true = sym c.term_missing.ensures ∙ c.if-term_missing.true in
-    terms-missing g.archive.now g.l s.requires g.q.numbers g.q.size g.answers.now c.if-q-eq0.false c.if-q-gt8.false e
+pub returns-then-answers-archive : goal.returns-then-answers-archive
+returns-then-answers-archive c =
+    let a = c.args.archive.now in
+    conjunction_short a.bytes.now a.layout a.opened c.args.q.numbers c.args.q.size c.args.answers.now c.in_ok-given.given.terms.now c.in_ok-given.ensures.outcome c.if-answers-archive.true
 
-pub overflow_mul-l : goal.overflow_mul-l
-overflow_mul-l c =
-    let s = c in
-    let g = s.args in
-    omega (arith, (fitting g.archive.now g.l s.requires).documents)
-
-pub returns-then-answers-l : goal.returns-then-answers-l
-returns-then-answers-l c =
-    let s = c in
-    let g = s.args in
-    let e : any (leb g.l.terms) (take g.q.size g.q.numbers) ≡ false = sym c.term_missing.ensures ∙ c.if-term_missing.false in
-    terms-short g.archive.now g.l s.requires g.q.numbers g.q.size g.answers.now c.if-q-eq0.false c.if-q-gt8.false e c.if-answers-l.true
+pub invariant_of-query : goal.invariant_of-query
+invariant_of-query c =
+    let given = c.in_ok-given.given in
+    record { chosen = chosen_distinct given.archive.layout.terms given.terms.now c.as_slice.result.now given.chosen (c.as_slice.ensures ∙ c.distinct-kept.ensures) }
 
 pub conjunction_in-requires : goal.conjunction_in-requires
 conjunction_in-requires c =
-    let asked : Asked c.args.l.terms c.args.q =
-    let g = c.args in
-    let e : any (leb g.l.terms) (take g.q.size g.q.numbers) ≡ false = sym c.term_missing.ensures ∙ c.if-term_missing.false in
-    let z = c.if-q-eq0.false in
-    record { some = omega arith; few = c.if-q-gt8.false; known = within_any g.l.terms (take g.q.size g.q.numbers) e } in
-    let asked-once : (r : Terms) → Asked c.args.l.terms c.args.q → terms_of r ≡ distinct (terms_of c.args.q) → r.size ≤ c.args.q.size
-    → Asked c.args.l.terms r =
-    λ r a e l. let eight : length c.args.q.numbers ≡ 8 = search rules in asked-distinct c.args.l.terms c.args.q r eight a e l in
-    let e = c in
-    let s = e in
-    let d = c.distinct-terms in record {
-      opened = s.requires;
-      asked = (asked-once d.result (asked) d.ensures.0 d.ensures.1, e.if-answers-l.false, different_distinct d.result (terms_of s.args.q) d.ensures.0);
-    }
+    let given = c.in_ok-given.given in
+    let e = c.as_slice.ensures ∙ c.distinct-kept.ensures in
+    (omega (arith, ap (λ (l : Layout). l.documents) c.in_ok-given.ensures.same.1, c.if-answers-archive.false), subst Different (sym e) (distinct_different given.terms.now))
 
 pub overflow_cast-result : goal.overflow_cast-result
 overflow_cast-result c =
-    let s = c in
-    let g = s.args in
+    let a = c.in_ok-given.given.archive in
     omega (
       arith,
       c.conjunction_in.ensures.0,
-      found_le (contents g.archive.now) (terms_of c.distinct-terms.result) (contents g.archive.now).documents,
-      documents-are g.archive.now g.l s.requires,
-      (fitting g.archive.now g.l s.requires).documents,
+      found_le (contents a.bytes.now) c.as_slice.result.now (contents a.bytes.now).documents,
+      documents-are a.bytes.now a.layout a.opened,
+      (fitting a.bytes.now a.layout a.opened).documents,
     )
+
+-- the conjunction of the kept terms is that of what was asked
+moved : {b bytes ts terms kept : List ℕ} (r : ℕ) (before after : List ℕ) → b ≡ bytes → ts ≡ terms → kept ≡ distinct ts → Lists (conjunction (contents b) kept) r before after
+    → Lists (conjunction (contents bytes) (distinct terms)) r before after
+moved {b} {bytes} {ts} {terms} {kept} r before after e f g o =
+    subst (λ (b : List ℕ). Lists (conjunction (contents b) (distinct terms)) r before after) e
+    (subst (λ (xs : List ℕ). Lists (conjunction (contents b) xs) r before after) (g ∙ ap distinct f) o)
 
 pub returns : goal.returns
 returns c =
-    let e = c in
-    let s = e in
-    let g = s.args in
-    let k = c.conjunction_in in
-    let known : any (leb g.l.terms) (take g.q.size g.q.numbers) ≡ false = sym e.term_missing.ensures ∙ e.if-term_missing.false in
-    let found = subst (λ (ts : List ℕ). Lists (conjunction (contents g.archive.now) ts) k.result g.answers.now k.new.answers) c.distinct-terms.ensures.0 k.ensures in
-    terms_answered g.archive.now g.l s.requires g.q.numbers g.q.size g.answers.now e.if-q-eq0.false e.if-q-gt8.false known e.if-answers-l.false k.result k.new.answers found.0 found.1
+    let a = c.args.archive.now in
+    let k = c.in_ok-given.ensures in
+    let found = moved c.conjunction_in.result c.args.answers.now c.conjunction_in.new.answers k.same.0 k.same.2 (c.as_slice.ensures ∙ c.distinct-kept.ensures) c.conjunction_in.ensures in
+    conjunction_answered a.bytes.now a.layout a.opened c.args.q.numbers c.args.q.size c.args.answers.now c.in_ok-given.given.terms.now k.outcome c.if-answers-archive.false
+    c.conjunction_in.result c.conjunction_in.new.answers found.0 found.1

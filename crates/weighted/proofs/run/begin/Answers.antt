@@ -11,10 +11,8 @@ use Rattle.weighted.proofs.run.begin.Goals as goal
 
 pub half_of-root-requires : goal.half_of-root-requires
 half_of-root-requires c =
-    let s = c in
-    let at = s.requires.leads.0 in record {
-      question = s.requires.question;
-      path_len = (at.room, omega arith, omega arith, omega arith, omega (arith, zero-mul (2 ^ (s.args.l.levels.height - 0))), at.held);
+    let at = c.requires.leads.0 in record {
+      path_len = (at.room, omega arith, omega arith, omega arith, omega (arith, zero-mul (2 ^ (c.args.asking.now.query.archive.layout.levels.height - 0))), at.held);
     }
 
 pub returns-then-not-root : goal.returns-then-not-root
@@ -23,13 +21,13 @@ returns-then-not-root c =
     let h = c.half_of-root in
     record {
       heap = heap-zero g.work.now;
-      order = root_dead (ground_of g.archive.now g.l g.q) (sym h.ensures.lives ∙ not-true h.result.lives c.if-not-root.true);
+      order = root_dead (ground_of g.asking.now.query) (sym h.ensures.lives ∙ not-true h.result.lives c.if-not-root.true);
       rest = refl;
       size = refl;
     }
 
 pub push-requires : goal.push-requires
-push-requires c = let s = c in (s.requires.leads.1, heap-zero s.args.work.now)
+push-requires c = let s = c in (c.requires.leads.1, heap-zero c.args.work.now)
 
 pub returns : goal.returns
 returns c =
@@ -39,7 +37,7 @@ returns c =
     record {
       heap = P.heap;
       order = P.order
-          ∙ root_lives_lem (ground_of g.archive.now g.l g.q) h.result.waits h.ensures.waits
+          ∙ root_lives_lem (ground_of g.asking.now.query) h.result.waits h.ensures.waits
           (sym h.ensures.lives ∙ not-false h.result.lives c.if-not-root.false);
       rest = P.rest;
       size = P.size;

@@ -5,9 +5,9 @@ use Rattle.weighted.specs.Grounds.{ground_of}
 use Rattle.weighted.specs.Steps.{Leads}
 use Rattle.weighted.proofs.run.weighted_in.Given as goal
 
-abbrev pub invariant-loop-q : goal.invariant-loop-q
-invariant-loop-q l =
-    Searching (ground_of l.archive l.l l.q) l.k l.allowance l.initial.answers l.initial.work l.answers l.work l.p × Leads l.archive l.l l.q l.path l.at
+abbrev pub invariant-loop-asking : goal.invariant-loop-asking
+invariant-loop-asking l =
+    Searching (ground_of l.query) l.k l.allowance l.initial.answers l.initial.work l.answers l.work l.p × Leads l.query l.path l.at
 
-abbrev pub decreases-loop-q : goal.decreases-loop-q
-decreases-loop-q l = fuel_of l.k l.allowance l.p
+abbrev pub decreases-loop-asking : goal.decreases-loop-asking
+decreases-loop-asking l = fuel_of l.k l.allowance l.p

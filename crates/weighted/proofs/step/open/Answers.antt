@@ -9,53 +9,44 @@ use Rattle.weighted.proofs.step.open.Goals as goal
 
 pub overflow_shr-number : goal.overflow_shr-number
 overflow_shr-number c =
-    let s = c in
-    let g = s.args in
-    let o = s.requires.question in
-    let G = ground_of g.archive.now g.l g.q in
-    let ok = sound g.archive.now g.l o.opened g.q o.asked o.eight in
-    let kept = s.requires.kept in
-    let f = s.requires.first.0 in
-    let d = s.requires.first.1 in
+    let g = c.args in
+    let G = ground_of g.asking.now.query in
+    let ok = sound g.asking.now.query in
+    let kept = c.requires.kept in
+    let f = c.requires.first.0 in
+    let d = c.requires.first.1 in
     omega (arith, ok.low)
 
 pub halves-two-requires : goal.halves-two-requires
 halves-two-requires c =
-    let s = c in
-    let g = s.args in
-    let o = s.requires.question in
-    let G = ground_of g.archive.now g.l g.q in
-    let ok = sound g.archive.now g.l o.opened g.q o.asked o.eight in
-    let kept = s.requires.kept in
-    let f = s.requires.first.0 in
-    let d = s.requires.first.1 in record {
-      question = o;
-      leads = s.requires.leads;
+    let g = c.args in
+    let G = ground_of g.asking.now.query in
+    let ok = sound g.asking.now.query in
+    let kept = c.requires.kept in
+    let f = c.requires.first.0 in
+    let d = c.requires.first.1 in record {
+      leads = c.requires.leads;
       level_lt_height = (d, number_lt G ok g.work.now g.waiting g.r kept f d, start_is G ok g.work.now g.waiting g.r kept f d);
     }
 
 pub replace_top-requires : goal.replace_top-requires
 replace_top-requires c =
-    let s = c in
-    let g = s.args in
-    let o = s.requires.question in
-    let G = ground_of g.archive.now g.l g.q in
-    let ok = sound g.archive.now g.l o.opened g.q o.asked o.eight in
-    let kept = s.requires.kept in
-    let f = s.requires.first.0 in
-    let d = s.requires.first.1 in
+    let g = c.args in
+    let G = ground_of g.asking.now.query in
+    let ok = sound g.asking.now.query in
+    let kept = c.requires.kept in
+    let f = c.requires.first.0 in
+    let d = c.requires.first.1 in
     (first_some G g.work.now g.waiting g.r kept f, kept.heap)
 
 pub returns-then-not-zero : goal.returns-then-not-zero
 returns-then-not-zero c =
-    let s = c in
-    let g = s.args in
-    let o = s.requires.question in
-    let G = ground_of g.archive.now g.l g.q in
-    let ok = sound g.archive.now g.l o.opened g.q o.asked o.eight in
-    let kept = s.requires.kept in
-    let f = s.requires.first.0 in
-    let d = s.requires.first.1 in
+    let g = c.args in
+    let G = ground_of g.asking.now.query in
+    let ok = sound g.asking.now.query in
+    let kept = c.requires.kept in
+    let f = c.requires.first.0 in
+    let d = c.requires.first.1 in
     let t = c.halves-two in
     let low = t.ensures.halves_are.zero in
     let high = t.ensures.halves_are.one in
@@ -66,26 +57,22 @@ returns-then-not-zero c =
 
 pub replace_top-requires-then-not-one : goal.replace_top-requires-then-not-one
 replace_top-requires-then-not-one c =
-    let s = c in
-    let g = s.args in
-    let o = s.requires.question in
-    let G = ground_of g.archive.now g.l g.q in
-    let ok = sound g.archive.now g.l o.opened g.q o.asked o.eight in
-    let kept = s.requires.kept in
-    let f = s.requires.first.0 in
-    let d = s.requires.first.1 in
+    let g = c.args in
+    let G = ground_of g.asking.now.query in
+    let ok = sound g.asking.now.query in
+    let kept = c.requires.kept in
+    let f = c.requires.first.0 in
+    let d = c.requires.first.1 in
     (first_some G g.work.now g.waiting g.r kept f, kept.heap)
 
 pub returns-then-not-one : goal.returns-then-not-one
 returns-then-not-one c =
-    let s = c in
-    let g = s.args in
-    let o = s.requires.question in
-    let G = ground_of g.archive.now g.l g.q in
-    let ok = sound g.archive.now g.l o.opened g.q o.asked o.eight in
-    let kept = s.requires.kept in
-    let f = s.requires.first.0 in
-    let d = s.requires.first.1 in
+    let g = c.args in
+    let G = ground_of g.asking.now.query in
+    let ok = sound g.asking.now.query in
+    let kept = c.requires.kept in
+    let f = c.requires.first.0 in
+    let d = c.requires.first.1 in
     let t = c.halves-two in
     let low = t.ensures.halves_are.zero in
     let high = t.ensures.halves_are.one in
@@ -96,14 +83,12 @@ returns-then-not-one c =
 
 pub open_top-requires : goal.open_top-requires
 open_top-requires c =
-    let s = c in
-    let g = s.args in
-    let o = s.requires.question in
-    let G = ground_of g.archive.now g.l g.q in
-    let ok = sound g.archive.now g.l o.opened g.q o.asked o.eight in
-    let kept = s.requires.kept in
-    let f = s.requires.first.0 in
-    let d = s.requires.first.1 in
+    let g = c.args in
+    let G = ground_of g.asking.now.query in
+    let ok = sound g.asking.now.query in
+    let kept = c.requires.kept in
+    let f = c.requires.first.0 in
+    let d = c.requires.first.1 in
     let t = c.halves-two in
     let low = t.ensures.halves_are.zero in
     let high = t.ensures.halves_are.one in (
@@ -114,28 +99,24 @@ open_top-requires c =
 
 pub overflow_add-result : goal.overflow_add-result
 overflow_add-result c =
-    let s = c in
-    let g = s.args in
-    let o = s.requires.question in
-    let G = ground_of g.archive.now g.l g.q in
-    let ok = sound g.archive.now g.l o.opened g.q o.asked o.eight in
-    let kept = s.requires.kept in
-    let f = s.requires.first.0 in
-    let d = s.requires.first.1 in
+    let g = c.args in
+    let G = ground_of g.asking.now.query in
+    let ok = sound g.asking.now.query in
+    let kept = c.requires.kept in
+    let f = c.requires.first.0 in
+    let d = c.requires.first.1 in
     let few = kept.few in
     let n = ok.few in
     omega arith
 
 pub returns : goal.returns
 returns c =
-    let s = c in
-    let g = s.args in
-    let o = s.requires.question in
-    let G = ground_of g.archive.now g.l g.q in
-    let ok = sound g.archive.now g.l o.opened g.q o.asked o.eight in
-    let kept = s.requires.kept in
-    let f = s.requires.first.0 in
-    let d = s.requires.first.1 in
+    let g = c.args in
+    let G = ground_of g.asking.now.query in
+    let ok = sound g.asking.now.query in
+    let kept = c.requires.kept in
+    let f = c.requires.first.0 in
+    let d = c.requires.first.1 in
     let t = c.halves-two in
     let low = t.ensures.halves_are.zero in
     let high = t.ensures.halves_are.one in

@@ -11,12 +11,10 @@ use Rattle.weighted.proofs.step.step.Goals as goal
 
 pub returns-then-depth-height : goal.returns-then-depth-height
 returns-then-depth-height c =
-    let s = c in
-    let g = s.args in
-    let o = s.requires.question in
-    let G = ground_of g.archive.now g.l g.q in
-    let ok = sound g.archive.now g.l o.opened g.q o.asked o.eight in
-    let kept = s.requires.waiting_nonzero.1 in
+    let g = c.args in
+    let G = ground_of g.asking.now.query in
+    let ok = sound g.asking.now.query in
+    let kept = c.requires.waiting_nonzero.1 in
     let r = c.top-r.result in
     let e = c.top-r.ensures in
     let d = first_depth G g.work.now g.waiting r kept e ok in
@@ -25,37 +23,33 @@ returns-then-depth-height c =
     let ms = others_of G g.work.now g.waiting in
     let P = c.pop in record {
       work_after = names_move G ok g.work.now g.waiting r kept q ms F P.new.work P.result P.ensures g.left;
-      moves = names_kept G ok g.work.now g.waiting r kept q ms F P.new.work P.result P.ensures s.requires.waiting_nonzero.0;
-      leads_2 = s.requires.leads;
+      moves = names_kept G ok g.work.now g.waiting r kept q ms F P.new.work P.result P.ensures c.requires.waiting_nonzero.0;
+      leads_2 = c.requires.leads;
     }
 
 pub returns-then-left-eq0 : goal.returns-then-left-eq0
 returns-then-left-eq0 c =
-    let s = c in
-    let g = s.args in
-    let o = s.requires.question in
-    let G = ground_of g.archive.now g.l g.q in
-    let ok = sound g.archive.now g.l o.opened g.q o.asked o.eight in
-    let kept = s.requires.waiting_nonzero.1 in
+    let g = c.args in
+    let G = ground_of g.asking.now.query in
+    let ok = sound g.asking.now.query in
+    let kept = c.requires.waiting_nonzero.1 in
     let r = c.top-r.result in
     let e = c.top-r.ensures in
     let d = first_depth G g.work.now g.waiting r kept e ok in
-    let l = g.l.levels.height - 1 - r.second % 16 in
+    let l = g.asking.now.query.archive.layout.levels.height - 1 - r.second % 16 in
     let F = front_at G g.work.now g.waiting r kept e (suc l) (omega arith) in
     let z : g.left ≡ 0 = omega arith in record {
       work_after = rw z (spent_move G ok g.work.now g.waiting r kept l (index_of G r) (others_of G g.work.now g.waiting) F);
       moves = same_kept G g.work.now g.waiting kept;
-      leads_2 = s.requires.leads;
+      leads_2 = c.requires.leads;
     }
 
 pub overflow_sub-above : goal.overflow_sub-above
 overflow_sub-above c =
-    let s = c in
-    let g = s.args in
-    let o = s.requires.question in
-    let G = ground_of g.archive.now g.l g.q in
-    let ok = sound g.archive.now g.l o.opened g.q o.asked o.eight in
-    let kept = s.requires.waiting_nonzero.1 in
+    let g = c.args in
+    let G = ground_of g.asking.now.query in
+    let ok = sound g.asking.now.query in
+    let kept = c.requires.waiting_nonzero.1 in
     let r = c.top-r.result in
     let e = c.top-r.ensures in
     let d = first_depth G g.work.now g.waiting r kept e ok in
@@ -63,29 +57,24 @@ overflow_sub-above c =
 
 pub open-n-requires : goal.open-n-requires
 open-n-requires c =
-    let s = c in
-    let g = s.args in
-    let o = s.requires.question in
-    let G = ground_of g.archive.now g.l g.q in
-    let ok = sound g.archive.now g.l o.opened g.q o.asked o.eight in
-    let kept = s.requires.waiting_nonzero.1 in
+    let g = c.args in
+    let G = ground_of g.asking.now.query in
+    let ok = sound g.asking.now.query in
+    let kept = c.requires.waiting_nonzero.1 in
     let r = c.top-r.result in
     let e = c.top-r.ensures in
     let d = first_depth G g.work.now g.waiting r kept e ok in record {
-      question = o;
-      leads = s.requires.leads;
+      leads = c.requires.leads;
       kept = kept;
       first = (e, omega arith);
     }
 
 pub overflow_cast-result : goal.overflow_cast-result
 overflow_cast-result c =
-    let s = c in
-    let g = s.args in
-    let o = s.requires.question in
-    let G = ground_of g.archive.now g.l g.q in
-    let ok = sound g.archive.now g.l o.opened g.q o.asked o.eight in
-    let kept = s.requires.waiting_nonzero.1 in
+    let g = c.args in
+    let G = ground_of g.asking.now.query in
+    let ok = sound g.asking.now.query in
+    let kept = c.requires.waiting_nonzero.1 in
     let r = c.top-r.result in
     let e = c.top-r.ensures in
     let d = first_depth G g.work.now g.waiting r kept e ok in
@@ -93,12 +82,10 @@ overflow_cast-result c =
 
 pub overflow_shr-result : goal.overflow_shr-result
 overflow_shr-result c =
-    let s = c in
-    let g = s.args in
-    let o = s.requires.question in
-    let G = ground_of g.archive.now g.l g.q in
-    let ok = sound g.archive.now g.l o.opened g.q o.asked o.eight in
-    let kept = s.requires.waiting_nonzero.1 in
+    let g = c.args in
+    let G = ground_of g.asking.now.query in
+    let ok = sound g.asking.now.query in
+    let kept = c.requires.waiting_nonzero.1 in
     let r = c.top-r.result in
     let e = c.top-r.ensures in
     let d = first_depth G g.work.now g.waiting r kept e ok in
@@ -106,29 +93,25 @@ overflow_shr-result c =
 
 pub overflow_mul-result : goal.overflow_mul-result
 overflow_mul-result c =
-    let s = c in
-    let g = s.args in
-    let o = s.requires.question in
-    let G = ground_of g.archive.now g.l g.q in
-    let ok = sound g.archive.now g.l o.opened g.q o.asked o.eight in
-    let kept = s.requires.waiting_nonzero.1 in
+    let g = c.args in
+    let G = ground_of g.asking.now.query in
+    let ok = sound g.asking.now.query in
+    let kept = c.requires.waiting_nonzero.1 in
     let r = c.top-r.result in
     let e = c.top-r.ensures in
     let d = first_depth G g.work.now g.waiting r kept e ok in
-    omega (arith, shr_le (r.second / 16) (g.l.levels.height - r.second % 16))
+    omega (arith, shr_le (r.second / 16) (g.asking.now.query.archive.layout.levels.height - r.second % 16))
 
 pub returns : goal.returns
 returns c =
-    let s = c in
-    let g = s.args in
-    let o = s.requires.question in
-    let G = ground_of g.archive.now g.l g.q in
-    let ok = sound g.archive.now g.l o.opened g.q o.asked o.eight in
-    let kept = s.requires.waiting_nonzero.1 in
+    let g = c.args in
+    let G = ground_of g.asking.now.query in
+    let ok = sound g.asking.now.query in
+    let kept = c.requires.waiting_nonzero.1 in
     let r = c.top-r.result in
     let e = c.top-r.ensures in
     let d = first_depth G g.work.now g.waiting r kept e ok in
-    let h = g.l.levels.height in
+    let h = g.asking.now.query.archive.layout.levels.height in
     let l = h - 1 - r.second % 16 in
     let u : h - r.second % 16 ≡ suc l = let less = c.if-depth-height.false in omega arith in
     let F = front_at G g.work.now g.waiting r kept e (suc l) u in

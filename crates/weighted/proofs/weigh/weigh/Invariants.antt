@@ -1,4 +1,4 @@
-use Prim.Native.Nat.{ℕ, ◌-◌}
+use Prim.Native.Nat.{ℕ}
 use mathlib.Core.List.{List}
 use Rattle.model.specs.Opening.{contents}
 use Rattle.model.specs.Weighted.{weighed_term}
@@ -9,7 +9,4 @@ abbrev pub weight_of : List ℕ → ℕ → ℕ
 weight_of bytes t = (weighed_term (contents bytes) t).weight
 
 abbrev pub invariant-loop-k : goal.invariant-loop-k
-invariant-loop-k l = Filling (weight_of l.archive) l.q l.weights l.k
-
-abbrev pub decreases-loop-k : goal.decreases-loop-k
-decreases-loop-k l = l.q.size - l.k
+invariant-loop-k l = Filling (weight_of l.query.archive.bytes.now) l.query.terms.now l.weights l.k

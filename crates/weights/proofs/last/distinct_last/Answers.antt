@@ -5,18 +5,15 @@ use Rattle.weights.proofs.last.distinct_last.Goals as goal
 
 pub returns-then-count-lt2 : goal.returns-then-count-lt2
 returns-then-count-lt2 c =
-    let s = c in
-    let g = s.args in
-    two_few (level_of g.bytes.now g.t g.j) g.lo g.hi s.requires.j_lt_height.1 (omega (arith, c.if-count-lt2.true))
+    let g = c.args in
+    two_few (level_of g.tree.now.bytes.now g.tree.now.levels g.j) g.lo g.hi c.requires.1 (omega (arith, c.if-count-lt2.true))
 
 pub overflow_add-result : goal.overflow_add-result
 overflow_add-result c =
-    let s = c in
-    let g = s.args in
-    omega (arith, two_le (level_of g.bytes.now g.t g.j) g.lo g.hi s.requires.j_lt_height.1 c.ones_between-high.result)
+    let g = c.args in
+    omega (arith, two_le (level_of g.tree.now.bytes.now g.tree.now.levels g.j) g.lo g.hi c.requires.1 c.ones_between-high.result)
 
 pub returns : goal.returns
 returns c =
-    let s = c in
-    let g = s.args in
-    two-are (level_of g.bytes.now g.t g.j) g.lo g.hi s.requires.j_lt_height.1 c.ones_between-high.result c.ones_between-high.ensures (omega arith)
+    let g = c.args in
+    two-are (level_of g.tree.now.bytes.now g.tree.now.levels g.j) g.lo g.hi c.requires.1 c.ones_between-high.result c.ones_between-high.ensures (omega arith)

@@ -1,35 +1,25 @@
-use native.Mathlib.Omega.{arith}
-use Rattle.weights.proofs.Doubling.{doubling_start, doubling_few, doubling_next, doubling_end}
+use Rattle.std.proofs.Common.{arith}
+use Rattle.model.proofs.Weighted.Weights.{weight_le_48}
+use Rattle.weights.proofs.Fourths.{fourth_fits, fourth_some, times_some, by_logarithm}
 use Rattle.weights.proofs.weight.weight_of.Goals as goal
 
-pub returns-then-df-eq0 : goal.returns-then-df-eq0
-returns-then-df-eq0 c = (rw c.if-df-eq0.true, omega arith)
+pub pow-requires : goal.pow-requires
+pow-requires c = rw c.from.ensures (fourth_fits c.args.documents c.requires.1)
 
-pub loop-some-init : goal.loop-some-init
-loop-some-init c =
-    let s = c in
-    let g = s.args in
-    doubling_start g.documents g.df (omega arith) s.requires.0 s.requires.1 c.fourth-all.result c.fourth-some.result c.fourth-all.ensures.0 c.fourth-all.ensures.1 c.fourth-some.ensures.0
+pub pow-requires-2 : goal.pow-requires-2
+pow-requires-2 c = rw c.from-2.ensures (fourth_fits c.args.df (omega arith))
 
-pub overflow_add-g : goal.overflow_add-g
-overflow_add-g c =
-    let s = c in
-    let g = s.args in
-    omega (arith, doubling_few g.documents g.df (omega arith) s.requires.0 s.requires.1 c.loop-some.invariant)
+pub nonzero_div-times : goal.nonzero_div-times
+nonzero_div-times c = rw (c.pow-2.ensures, c.from-2.ensures) (fourth_some c.args.documents c.args.df (omega arith) c.requires.0)
 
-pub loop-some-smaller : goal.loop-some-smaller
-loop-some-smaller c = let o = c.loop-some.invariant in omega (arith, o.positive, o.fits)
-
-pub loop-some-preserved : goal.loop-some-preserved
-loop-some-preserved c =
-    let s = c in
-    let g = s.args in
-    doubling_next g.documents g.df (omega arith) s.requires.0 s.requires.1 c.loop-some.invariant (omega (arith, c.loop-some-test.true))
+pub ilog2-requires : goal.ilog2-requires
+ilog2-requires c =
+    rw (c.pow.ensures, c.pow-2.ensures, c.from.ensures, c.from-2.ensures) (times_some c.args.documents c.args.df (omega arith) c.requires.0)
 
 pub returns : goal.returns
 returns c =
-    let s = c in
-    let g = s.args in (
-      doubling_end g.documents g.df (omega arith) s.requires.0 s.requires.1 c.loop-some.invariant (omega (arith, c.loop-some-test.false)),
-      doubling_few g.documents g.df (omega arith) s.requires.0 s.requires.1 c.loop-some.invariant,
-    )
+    let a = c.args in
+    let low = rw (c.pow.ensures, c.pow-2.ensures, c.from.ensures, c.from-2.ensures) at c.ilog2.ensures.power_le in
+    let high = rw (c.pow.ensures, c.pow-2.ensures, c.from.ensures, c.from-2.ensures) at c.ilog2.ensures.next_power_gt in
+    let e = by_logarithm a.documents a.df (omega arith) c.requires.0 c.ilog2.result low high in
+    (e, omega (arith, e, weight_le_48 a.documents a.df c.requires.1))
