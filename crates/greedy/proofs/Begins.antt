@@ -3,7 +3,7 @@ use Prim.Native.Nat.{ℕ, ◌-◌, ◌^◌, ◌<◌}
 use native.Mathlib.Omega.{arith}
 use native.Mathlib.Nat.{zero-mul, le_refl}
 use mathlib.Core.Path.{◌≡◌, sym, ap, ◌∙◌}
-use mathlib.Core.List.{List, [], ◌∷◌, map}
+use mathlib.Core.List.{[], ◌∷◌, map}
 use borrow.Author.Tests.{lt-ltb, le-ltb}
 use Rattle.frontier.specs.declared.Record.{Record}
 use Rattle.model.specs.TopK.{node, count_in}
@@ -15,36 +15,36 @@ use Rattle.wavelet.proofs.Stored.{length-entries_in, within_entries_in}
 use Rattle.wavelet.proofs.Spans.{span-root}
 use Rattle.moves.specs.Ground.{record_in, root_waits}
 use Rattle.search.specs.declared.Search.{Search}
-use Rattle.search.specs.Searchable.{Searchable, range_of}
+use Rattle.search.specs.Sought.{range_of}
 use Rattle.greedy.specs.Records.{packed}
 use Rattle.greedy.specs.Grounds.{span_at, ground_of}
 use Rattle.greedy.proofs.Grounds.{inside}
 use Rattle.greedy.proofs.Records.{record_is}
 
-module _ (bytes : List ℕ) (s : Search) (ok : Searchable bytes s) where
+module _ (s : Search) where
   abbrev h : ℕ
-  h = s.levels.height
+  h = s.tree.levels.height
 
   abbrev whole : Span
-  whole = record { start = 0; lo = s.a; hi = s.b; end = s.levels.entries }
+  whole = record { start = 0; lo = s.a; hi = s.b; end = s.tree.levels.entries }
 
-  root_record : packed 0 0 whole ≡ record_in (ground_of bytes s) (node h 0)
+  root_record : packed 0 0 whole ≡ record_in (ground_of s) (node h 0)
   root_record =
-      let xs = entries_in bytes s.levels in
+      let xs = entries_in s.tree.bytes.now s.tree.levels in
       let d : h - h ≡ 0 = omega arith in
-      let o = ok.ordered in
-      let e : span_at bytes s (node h 0) ≡ whole =
+      let o = s.searchable.ordered in
+      let e : span_at s (node h 0) ≡ whole =
       ap (λ (j : ℕ). span_of h xs s.a s.b j 0) d
-      ∙ span-root h xs s.a s.b (within_entries_in bytes s.levels) (let i = inside bytes s ok in omega arith) (inside bytes s ok)
-      ∙ ap (λ (n : ℕ). record { start = 0; lo = s.a; hi = s.b; end = n }) (length-entries_in bytes s.levels) in
-      sym (λ i. packed (zero-mul (2 ^ h) i) (d i) (e i)) ∙ record_is bytes s ok h 0 (le_refl h)
+      ∙ span-root h xs s.a s.b (within_entries_in s.tree.bytes.now s.tree.levels) (let i = inside s in omega arith) (inside s)
+      ∙ ap (λ (n : ℕ). record { start = 0; lo = s.a; hi = s.b; end = n }) (length-entries_in s.tree.bytes.now s.tree.levels) in
+      sym (λ i. packed (zero-mul (2 ^ h) i) (d i) (e i)) ∙ record_is s h 0 (le_refl h)
 
-  root-count : count_in (range_of bytes s) (node h 0) ≡ s.b - s.a
+  root-count : count_in (range_of s) (node h 0) ≡ s.b - s.a
   unfolding packed
   root-count = sym (ap (λ (x : Record). x.first) root_record)
 
-  pub root-empty : s.a ≡ s.b → [] ≡ map (record_in (ground_of bytes s)) (blocks (root_waits (ground_of bytes s)))
-  root-empty e = rw (le-ltb 0 (count_in (range_of bytes s) (node h 0)) (omega (arith, root-count)))
+  pub root-empty : s.a ≡ s.b → [] ≡ map (record_in (ground_of s)) (blocks (root_waits (ground_of s)))
+  root-empty e = rw (le-ltb 0 (count_in (range_of s) (node h 0)) (omega (arith, root-count)))
 
-  pub root_waits_lem : s.a < s.b → packed 0 0 whole ∷ [] ≡ map (record_in (ground_of bytes s)) (blocks (root_waits (ground_of bytes s)))
-  root_waits_lem l = rw (lt-ltb 0 (count_in (range_of bytes s) (node h 0)) (omega (arith, root-count))) (ap (λ (x : Record). x ∷ []) root_record)
+  pub root_waits_lem : s.a < s.b → packed 0 0 whole ∷ [] ≡ map (record_in (ground_of s)) (blocks (root_waits (ground_of s)))
+  root_waits_lem l = rw (lt-ltb 0 (count_in (range_of s) (node h 0)) (omega (arith, root-count))) (ap (λ (x : Record). x ∷ []) root_record)

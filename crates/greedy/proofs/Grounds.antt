@@ -16,35 +16,35 @@ use Rattle.wavelet.proofs.Stored.{length-entries_in}
 use Rattle.moves.specs.Results.{found_by}
 use Rattle.moves.proofs.Grounds.{Sound}
 use Rattle.search.specs.declared.Search.{Search}
-use Rattle.search.specs.Searchable.{Searchable, range_of}
+use Rattle.search.specs.Sought.{range_of}
 use Rattle.greedy.specs.Grounds.{ground_of, found_in}
 
-module _ (bytes : List ℕ) (s : Search) (ok : Searchable bytes s) where
+module _ (s : Search) where
   -- the range ends inside the entries, of which there are fewer than 2 ^ 16
-  pub inside : s.b ≤ length (entries_in bytes s.levels)
-  inside = let i = ok.inside in omega (arith, length-entries_in bytes s.levels)
+  pub inside : s.b ≤ length (entries_in s.tree.bytes.now s.tree.levels)
+  inside = let i = s.searchable.inside in omega (arith, length-entries_in s.tree.bytes.now s.tree.levels)
 
-  pub few : length (entries_in bytes s.levels) < 65536
-  few = let f = ok.stored.few in omega (arith, length-entries_in bytes s.levels)
+  pub few : length (entries_in s.tree.bytes.now s.tree.levels) < 65536
+  few = let f = s.searchable.stored.few in omega (arith, length-entries_in s.tree.bytes.now s.tree.levels)
 
-  pub range_within : Within s.documents (range_of bytes s)
-  range_within = within_part s.documents s.a s.b (entries_in bytes s.levels) ok.within
+  pub range_within : Within s.documents (range_of s)
+  range_within = within_part s.documents s.a s.b (entries_in s.tree.bytes.now s.tree.levels) s.searchable.within
 
-  pub documents_fit : s.documents ≤ 2 ^ s.levels.height
-  documents_fit = rw ok.high (le_pow-height s.documents)
+  pub documents_fit : s.documents ≤ 2 ^ s.tree.levels.height
+  documents_fit = rw s.searchable.high (le_pow-height s.documents)
 
-  pub sound : Sound (ground_of bytes s)
+  pub sound : Sound (ground_of s)
   sound = record {
-    low = ok.stored.low;
-    some = ok.some;
-    few = ok.few;
+    low = s.searchable.stored.low;
+    some = s.searchable.some;
+    few = s.searchable.few;
     fits = documents_fit;
-    counted = counted (range_of bytes s);
-    outside = λ d l u. outside s.documents (range_of bytes s) range_within d l;
+    counted = counted (range_of s);
+    outside = λ d l u. outside s.documents (range_of s) range_within d l;
   }
 
   -- the moves on it are those of the search
-  pub found_is : (k allowance : ℕ) → found_by (ground_of bytes s) k allowance ≡ found_in bytes s k allowance
+  pub found_is : (k allowance : ℕ) → found_by (ground_of s) k allowance ≡ found_in s k allowance
   found_is k allowance =
-      ap (λ (w : List Waiting). found_of flat s.documents (answer_of (moves_from (count_in (range_of bytes s)) (occupied (range_of bytes s)) (k + allowance) k allowance w)))
-      (sym (begin-root s.levels.height (range_of bytes s) (within_le s.documents (2 ^ s.levels.height) documents_fit (range_of bytes s) range_within)))
+      ap (λ (w : List Waiting). found_of flat s.documents (answer_of (moves_from (count_in (range_of s)) (occupied (range_of s)) (k + allowance) k allowance w)))
+      (sym (begin-root s.tree.levels.height (range_of s) (within_le s.documents (2 ^ s.tree.levels.height) documents_fit (range_of s) range_within)))

@@ -1,7 +1,9 @@
 -- A search by moves as the code goes about it, and the result that it comes to. Document 01, "The questions", the shortlist.
-use Rattle.std.specs.Prelude.{ℕ, ◌+◌, ◌-◌, ◌*◌, ◌^◌, ◌≤◌, ◌<◌, ◌≡◌, List, map, Bool, true, false, cond, not, ◌&&◌, length, drop, set, ltb}
+use Rattle.std.specs.Prelude.{ℕ, ◌+◌, ◌-◌, ◌*◌, ◌^◌, ◌≤◌, ◌<◌, ◌≡◌, List, map, Bool, true, false, cond, not, ◌&&◌, length, drop, set, ltb, Result}
 use Rattle.frontier.specs.Heap.{queue, Heap}
-use Rattle.model.specs.Outcome.{Outcome, answered, refused}
+use Rattle.model.specs.Outcome.{Outcome, answered}
+use Rattle.refusals.specs.declared.Refusal.{Refusal}
+use Rattle.refusals.specs.Refusals.{outcome_by}
 use Rattle.model.specs.Queries.{flat}
 use Rattle.model.specs.TopK.{done_with, spent_with, Found, found_of, SearchResult}
 use Rattle.model.specs.TopK as model
@@ -10,8 +12,6 @@ use Rattle.model.specs.Search as search
 use Rattle.model.specs.Frontier.{blocks}
 use Rattle.moves.specs.declared.Ended.{Ended}
 use Rattle.moves.specs.declared.Ended.TheVariants.{Done, Spent}
-use Rattle.moves.specs.declared.TopK.{TopK}
-use Rattle.moves.specs.declared.TopK.TheVariants as top_k
 use Rattle.moves.specs.declared.progress.Progress.{Progress}
 use Rattle.moves.specs.Ground.{Ground, root_waits, record_in, moves_of}
 use Rattle.moves.specs.Moves.{frontier_in, next_move, Moves}
@@ -88,12 +88,10 @@ found_by G k allowance = found_of flat G.documents (answer_of (moves_of G k allo
 
 -- ---- the answer to a question, with its refusals
 
--- document 01's number and values for each case of the answer
-abbrev pub top_k_of : TopK → Outcome model.Ended
-top_k_of (top_k.Done listed openings) = answered (done_with listed openings)
-top_k_of (top_k.Spent listed allowance) = answered (spent_with listed allowance)
-top_k_of (top_k.Refused number) = refused number
+-- how the search ended, or the number of a refusal
+abbrev pub top_k_of : Result Ended Refusal → Outcome model.Ended
+top_k_of = outcome_by ended_is
 
 -- the answer, with the final content of the lent slices
-abbrev pub top_k_is : TopK → List ℕ → List ℕ → SearchResult model.Ended
+abbrev pub top_k_is : Result Ended Refusal → List ℕ → List ℕ → SearchResult model.Ended
 top_k_is r answers work = record { outcome = top_k_of r; answers = answers; work = work }

@@ -4,7 +4,7 @@
 
 mod progress;
 
-pub use progress::{Progress, answer_of, ending, goes_on, listed, tell};
+pub use progress::{Progress, ending, goes_on, listed, tell};
 
 // Each move of the search names a document with its count, opens a node, or finds its allowance spent.
 #[derive(Clone, Copy)]
@@ -26,12 +26,4 @@ pub struct Moved {
 pub enum Ended {
     Done { listed: u32, openings: u32 },
     Spent { listed: u32, allowance: u32 },
-}
-
-// The answer to a question: how the search ended, or the number of a refusal.
-#[derive(Clone, Copy)]
-pub enum TopK {
-    Done { listed: u32, openings: u32 },
-    Spent { listed: u32, allowance: u32 },
-    Refused(u32),
 }

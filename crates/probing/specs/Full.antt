@@ -10,5 +10,5 @@ abbrev pub listed_is : ℕ → List ℕ → List ℕ → SearchResult ℕ
 listed_is n answers work = record { outcome = answered n; answers = answers; work = work }
 
 -- what is to be found: as `probing_result` has it for an accepted question
-abbrev pub full_in : List ℕ → Search → ℕ → Found ℕ
-full_in bytes s k = probing_pairs k (entries_of bytes s)
+abbrev pub full_in : Search → ℕ → Found ℕ
+full_in s k = probing_pairs k (entries_of s)

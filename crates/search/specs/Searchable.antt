@@ -1,20 +1,26 @@
--- What both searches ask for, and the entries that they search.
-use Rattle.std.specs.Prelude.{ℕ, ◌≤◌, ◌≡◌, List}
+-- What both searches ask for: a search holds it.
+use Rattle.std.specs.Prelude.{ℕ, ◌≤◌, ◌≡◌, List, [], ◌∷◌}
+use Rattle.std.specs.Coded.{×_prop, Unit-prop, le_prop}
+use denote.Struct.Props.{props}
+use Rattle.wavelet.specs.declared.Levels.{Levels}
 use Rattle.wavelet.specs.Levels.{Stored, entries_in}
-use Rattle.model.specs.Lists.{part, Within}
+use Rattle.model.specs.Lists.{Within}
 use Rattle.model.specs.Rows.{height}
-use Rattle.search.specs.declared.Search.{Search}
 
 -- what a search asks: an archive's levels, whose entries are documents, and a range of them
-pub record Searchable (bytes : List ℕ) (s : Search) : Type 0 where
-  pub stored : Stored bytes s.levels
-  pub high : s.levels.height ≡ height s.documents
-  pub some : 1 ≤ s.documents
-  pub few : s.documents ≤ 4096
-  pub within : Within s.documents (entries_in bytes s.levels)
-  pub ordered : s.a ≤ s.b
-  pub inside : s.b ≤ s.levels.entries
+pub record Searchable (bytes : List ℕ) (t : Levels) (documents a b : ℕ) : Type 0 where
+  pub stored : Stored bytes t
+  pub high : t.height ≡ height documents
+  pub some : 1 ≤ documents
+  pub few : documents ≤ 4096
+  pub within : Within documents (entries_in bytes t)
+  pub ordered : a ≤ b
+  pub inside : b ≤ t.entries
 
--- the entries of the range
-abbrev pub range_of : List ℕ → Search → List ℕ
-range_of bytes s = part s.a s.b (entries_in bytes s.levels)
+-- it is known in one way alone
+Within-prop : (n : ℕ) (xs : List ℕ) → IsProp (Within n xs)
+Within-prop n [] = Unit-prop
+Within-prop n (x ∷ xs) = ×_prop le_prop (Within-prop n xs)
+
+pub Searchable-prop : (bytes : List ℕ) (t : Levels) (documents a b : ℕ) → IsProp (Searchable bytes t documents a b)
+Searchable-prop bytes t documents a b = Prim.hlevel (props, Within-prop)

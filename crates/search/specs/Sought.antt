@@ -1,10 +1,15 @@
 -- What a search takes, on the definitions' side, and what it is to find. Document 01, "The questions", both shortlists.
 use Rattle.std.specs.Prelude.{ℕ, List, length}
+use Rattle.wavelet.specs.Levels.{entries_in}
+use Rattle.model.specs.Lists.{part}
 use Rattle.model.specs.Rows.{height}
 use Rattle.model.specs.Queries.{Pair, flat}
 use Rattle.model.specs.TopK.{Ended, Found, top_k, found_of, with_places, full_list}
 use Rattle.search.specs.declared.Search.{Search}
-use Rattle.search.specs.Searchable.{range_of}
+
+-- the entries of the range
+abbrev pub range_of : Search → List ℕ
+range_of s = part s.a s.b (entries_in s.tree.bytes.now s.tree.levels)
 
 -- what is searched: the entries of a range of a library with N documents, and where the range starts
 pub record Asked : Type 0 where
@@ -12,9 +17,9 @@ pub record Asked : Type 0 where
   pub from : ℕ
   pub entries : List ℕ
 
--- what is searched in an archive's bytes
-abbrev pub entries_of : List ℕ → Search → Asked
-entries_of bytes s = record { documents = s.documents; from = s.a; entries = range_of bytes s }
+-- what is searched by a search
+abbrev pub entries_of : Search → Asked
+entries_of s = record { documents = s.documents; from = s.a; entries = range_of s }
 
 -- what is found, by how its pairs go into the answer slice
 abbrev pub greedy_by : (List Pair → List ℕ) → ℕ → ℕ → Asked → Found Ended

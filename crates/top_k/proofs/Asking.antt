@@ -1,13 +1,11 @@
 -- The question as the code holds it is the one that is asked, and the results of model follow from what it searches.
-use Prim.Native.Nat.{ℕ, ◌*◌, min}
+use Prim.Native.Nat.{ℕ, ◌*◌, ◌≤◌, ◌<◌, min}
 use mathlib.Core.Path.{◌≡◌, refl, sym, ap, ◌∙◌, subst}
 use mathlib.Core.List.{List}
-use mathlib.Core.Logic.{◌⊎◌, inl, inr}
-use mathlib.Core.Bool.{Bool, true, false, cond}
+use mathlib.Core.Bool.{Bool, true, false}
 use lib.ListN.{length}
 use lib.Dec.{ltb}
-use borrow.Author.Tests.{ltb-false}
-use Rattle.bits.proofs.Tests.{look}
+use borrow.Author.Tests.{lt-ltb, le-ltb}
 use Rattle.model.specs.Lists.{part, Within}
 use Rattle.model.specs.Outcome.{Outcome, answered, refused, refuse, and_then}
 use Rattle.model.specs.Format.{Library}
@@ -15,18 +13,18 @@ use Rattle.model.specs.Opening.{opened, contents}
 use Rattle.model.specs.Queries as model
 use Rattle.model.specs.Queries.{Bounds, bounds_of}
 use Rattle.model.specs.TopK.{Found, found_into, search_result, greedy_result, probing_result}
+use Rattle.std.specs.Prelude.{Result, Ok}
+use Rattle.refusals.specs.declared.Refusal.{Refusal}
+use Rattle.wavelet.specs.declared.Levels.{Levels}
+use Rattle.wavelet.specs.Levels.{entries_in}
 use Rattle.archive.specs.declared.Layout.{Layout}
-use Rattle.archive_ranges.specs.declared.Range.{Range}
-use Rattle.archive_ranges.specs.declared.Range.TheVariants as range
+use Rattle.archive_ranges.specs.declared.Entries.{Entries}
+use Rattle.archive_ranges.specs.Ranges.{bounds_in}
 use Rattle.archive.specs.Layout.{Opened}
-use Rattle.archive_ranges.specs.Ranges.{bounds_in, Inside}
 use Rattle.archive.proofs.Opened.{limits, stored, entries-are, entries_within, documents-are}
-use Rattle.search.specs.declared.Search.{Search}
-use Rattle.top_k.specs.declared.Query.{Query}
-use Rattle.top_k.specs.declared.Query.TheVariants as query
 use Rattle.search.specs.Searchable.{Searchable}
-use Rattle.search.specs.Sought.{Asked, entries_of, greedy_of, probing_of}
-use Rattle.top_k.specs.Asked.{with_room, asked, query_with, query_for, asked_in, Ready, Posed}
+use Rattle.search.specs.Sought.{Asked, greedy_of, probing_of}
+use Rattle.top_k.specs.Asked.{with_room, asked, posed, greedy_found, probing_found}
 
 -- ---- the results of model
 
@@ -78,69 +76,49 @@ module _ {A : Type 0} (bytes : List ℕ) (r : model.Range) (k : ℕ) (answers wo
 
 -- ---- the question
 
--- refusals 12 and 13
-module _ (bytes : List ℕ) (k answers work : ℕ) (s : Search) (ok : Searchable bytes s) where
-  pub room_same : asked_in bytes (query_with k answers work s) ≡ with_room k answers work (entries_of bytes s)
-  room_same = go (ltb answers (3 * min k s.documents)) (ltb work (4 * s.documents))
-    where
-      go : (b c : Bool) → asked_in bytes (cond b (query.Refused 12) (cond c (query.Refused 13) (query.Over s)))
-          ≡ refuse 12 b (refuse 13 c (answered (entries_of bytes s)))
-      go true c = refl
-      go false true = refl
-      go false false = refl
+-- an archive's entries are documents, and a range inside them can be searched
+pub searchable : (bytes : List ℕ) (l : Layout) → Opened bytes l → (a b : ℕ) → a ≤ b → b ≤ l.levels.entries → Searchable bytes l.levels l.documents a b
+searchable bytes l o a b ordered inside = record {
+  stored = stored bytes l o;
+  high = ap (λ (x : Layout). x.levels.height) o.shape;
+  some = (limits bytes l o).some_document;
+  few = (limits bytes l o).documents;
+  within = subst (Within l.documents) (sym (entries-are bytes l o)) (entries_within bytes l o);
+  ordered = ordered;
+  inside = inside;
+}
 
-  pub room_ready : Ready bytes k answers work (query_with k answers work s)
-  room_ready = go (look (ltb answers (3 * min k s.documents))) (look (ltb work (4 * s.documents)))
-    where
-      go : (ltb answers (3 * min k s.documents) ≡ true) ⊎ (ltb answers (3 * min k s.documents) ≡ false)
-          → (ltb work (4 * s.documents) ≡ true) ⊎ (ltb work (4 * s.documents) ≡ false)
-          → Ready bytes k answers work (query_with k answers work s)
-      go (inl e) f = rw e tt
-      go (inr e) (inl f) = rw (e, f) tt
-      go (inr e) (inr f) = rw (e, f) (ok, (ltb-false answers (3 * min k s.documents) e, ltb-false work (4 * s.documents) f))
+-- a range that is not refused, as the code goes about it
+module _ (bytes : List ℕ) (l : Layout) (o : Opened bytes l) (k answers work : ℕ) (range : Result Entries Refusal) (r : Entries) (e : range ≡ Ok r) where
+  asks : posed bytes k answers work (bounds_in range)
+      ≡ with_room k answers work (record { documents = l.documents; from = r.from; entries = part r.from r.to (entries_in bytes l.levels) })
+  asks =
+      ap (λ (x : Result Entries Refusal). posed bytes k answers work (bounds_in x)) e
+      ∙ (λ i. with_room k answers work (record { documents = documents-are bytes l o i; from = r.from; entries = part r.from r.to (sym (entries-are bytes l o) i) }))
 
-module _ (bytes : List ℕ) (r : model.Range) (k answers work : ℕ) where
-  module _ (l : Layout) (o : Opened bytes l) where
-    abbrev search_at : ℕ → ℕ → Search
-    search_at a b = record { levels = l.levels; documents = l.documents; a = a; b = b }
+  pub short_answers : answers < 3 * min k l.documents → refused 12 ≡ posed bytes k answers work (bounds_in range)
+  short_answers h = rw (asks, lt-ltb answers (3 * min k l.documents) h)
 
-    searchable : (a b : ℕ) → Inside l.levels.entries (range.Entries a b) → Searchable bytes (search_at a b)
-    searchable a b inside = record {
-      stored = stored bytes l o;
-      high = ap (λ (x : Layout). x.levels.height) o.shape;
-      some = (limits bytes l o).some_document;
-      few = (limits bytes l o).documents;
-      within = subst (Within l.documents) (sym (entries-are bytes l o)) (entries_within bytes l o);
-      ordered = inside.0;
-      inside = inside.1;
-    }
+  pub short_work : 3 * min k l.documents ≤ answers → work < 4 * l.documents → refused 13 ≡ posed bytes k answers work (bounds_in range)
+  short_work g h = rw (asks, le-ltb answers (3 * min k l.documents) g, lt-ltb work (4 * l.documents) h)
 
-    -- an opened archive, and a range of it that is refused or inside its entries
-    posed_range : (x : Range) → bounds_in x ≡ bounds_of (contents bytes) r → Inside l.levels.entries x
-        → Posed bytes r k answers work (query_for l k answers work x)
-    posed_range (range.Refused number) e inside = record { same = rw (o.accepted, ← e); ready = tt }
-    posed_range (range.Entries a b) e inside =
-        let ok = searchable a b inside in
-        record {
-          same = room_same bytes k answers work (search_at a b) ok ∙ rw (o.accepted, ← e)
-              (λ i. with_room k answers work (record { documents = sym (documents-are bytes l o) i; from = a; entries = part a b (entries-are bytes l o i) }));
-          ready = room_ready bytes k answers work (search_at a b) ok;
-        }
+  pub enough_room : 3 * min k l.documents ≤ answers → 4 * l.documents ≤ work → (b : List ℕ) (t : Levels) → b ≡ bytes → t ≡ l.levels
+      → answered (record { documents = l.documents; from = r.from; entries = part r.from r.to (entries_in b t) }) ≡ posed bytes k answers work (bounds_in range)
+  enough_room g h b t x y =
+      rw (x, y, asks, le-ltb answers (3 * min k l.documents) g, le-ltb work (4 * l.documents) h)
 
-    pub posed : (x : Range) → bounds_in x ≡ bounds_of (contents bytes) r → Inside l.levels.entries x
-        → (q : Query) → q ≡ query_for l k answers work x → Posed bytes r k answers work q
-    posed x e inside q p = subst (Posed bytes r k answers work) (sym p) (posed_range x e inside)
+-- what is asked of an opened archive, by the ends of its range
+module _ (bytes : List ℕ) (l : Layout) (o : Opened bytes l) (r : model.Range) (bounds : Outcome Bounds) (e : bounds ≡ bounds_of (contents bytes) r) where
+  posed_asked : (k answers work : ℕ) → posed bytes k answers work bounds ≡ asked bytes r k answers work
+  posed_asked k answers work = rw (o.accepted, ← e)
 
--- ---- the answers to a question
+  module _ (k : ℕ) (answers work : List ℕ) where
+    pub greedy_posed : (allowance : ℕ) → found_into answers work (greedy_found k allowance (posed bytes k (length answers) (length work) bounds)) ≡ greedy_result bytes r k allowance answers work
+    greedy_posed allowance =
+        ap (λ (x : Outcome Asked). found_into answers work (greedy_found k allowance x)) (posed_asked k (length answers) (length work))
+        ∙ sym (search_asked bytes r k answers work (λ N from xs. greedy_of k allowance (record { documents = N; from = from; entries = xs })))
 
-module _ (bytes : List ℕ) (r : model.Range) (k : ℕ) (answers work : List ℕ) (q : Query) (p : Posed bytes r k (length answers) (length work) q) where
-  pub greedy_posed : (allowance : ℕ)
-      → found_into answers work (and_then (asked_in bytes q) (λ x. answered (greedy_of k allowance x))) ≡ greedy_result bytes r k allowance answers work
-  greedy_posed allowance =
-      ap (λ (o : Outcome Asked). found_into answers work (and_then o (λ x. answered (greedy_of k allowance x)))) p.same
-      ∙ sym (search_asked bytes r k answers work (λ N from xs. greedy_of k allowance (record { documents = N; from = from; entries = xs })))
-
-  pub probing_posed : found_into answers work (and_then (asked_in bytes q) (λ x. answered (probing_of k x))) ≡ probing_result bytes r k answers work
-  probing_posed =
-      ap (λ (o : Outcome Asked). found_into answers work (and_then o (λ x. answered (probing_of k x)))) p.same
-      ∙ sym (search_asked bytes r k answers work (λ N from xs. probing_of k (record { documents = N; from = from; entries = xs })))
+    pub probing_posed : found_into answers work (probing_found k (posed bytes k (length answers) (length work) bounds)) ≡ probing_result bytes r k answers work
+    probing_posed =
+        ap (λ (x : Outcome Asked). found_into answers work (probing_found k x)) (posed_asked k (length answers) (length work))
+        ∙ sym (search_asked bytes r k answers work (λ N from xs. probing_of k (record { documents = N; from = from; entries = xs })))

@@ -6,6 +6,7 @@ use mathlib.Core.List.{List}
 use mathlib.Core.Bool.{Bool, true, false, cond}
 use lib.ListN.{length, take}
 use lib.Dec.{leb, ltb, eqb}
+use Rattle.std.specs.Prelude.{Ok}
 use Rattle.bits.specs.Sequences.{occurrences}
 use Rattle.model.specs.Lists.{overwrite}
 use Rattle.model.specs.Outcome.{answered}
@@ -17,13 +18,10 @@ use Rattle.answers.specs.Spread.{Counted}
 use Rattle.answers.proofs.Spreads.{pairs-written, length-written, placed_written}
 use Rattle.model.proofs.Listed.{length-full, length-top_k}
 use Rattle.moves.specs.declared.Ended as moves
-use Rattle.moves.specs.declared.TopK.{TopK}
-use Rattle.moves.specs.Results.{listed_by, ended_is, result_is, top_k_of, top_k_is}
+use Rattle.moves.specs.Results.{listed_by, ended_is, result_is, top_k_is}
 use Rattle.search.specs.declared.Search.{Search}
-use Rattle.search.specs.Searchable.{Searchable, range_of}
-use Rattle.search.specs.Sought.{entries_of, greedy_pairs, probing_pairs, greedy_of, probing_of}
+use Rattle.search.specs.Sought.{range_of, entries_of, greedy_pairs, probing_pairs, greedy_of, probing_of}
 use Rattle.probing.specs.Full.{listed_is}
-use Rattle.top_k.specs.declared.Probed.TheVariants as probed
 use Rattle.top_k.specs.Asked.{probed_is}
 use Rattle.top_k.proofs.Demand3.FullList.{of_the_range, exact_count, longest_covered}
 
@@ -67,12 +65,12 @@ module _ (N k : ℕ) (few : N ≤ 4096) (xs : List ℕ) (ps : List Pair) (short 
 
 -- ---- from the pairs of a search to the answer with first places
 
-module _ (bytes : List ℕ) (s : Search) (ok : Searchable bytes s) (k : ℕ) (out work : List ℕ) (room : 3 * min k s.documents ≤ length out) where
+module _ (s : Search) (k : ℕ) (out work : List ℕ) (room : 3 * min k s.documents ≤ length out) where
   abbrev N : ℕ
   N = s.documents
 
   abbrev xs : List ℕ
-  xs = range_of bytes s
+  xs = range_of s
 
   -- the slice that a search leaves, spread
   module _ (ps : List Pair) (after : List ℕ) (left : after ≡ overwrite (flat ps) out) (n : ℕ) (many : n ≡ length ps) where
@@ -81,10 +79,10 @@ module _ (bytes : List ℕ) (s : Search) (ok : Searchable bytes s) (k : ℕ) (ou
         e ∙ (λ i. overwrite (with_places s.a xs (pairs_in (left i) (many i))) (left i)) ∙ placed_written ps out (first_place s.a xs)
 
     ready : length ps ≤ min k N → Counted xs ps → (3 * n ≤ length after) × (n ≤ 4096) × Counted xs (pairs_in after n)
-    ready short every = rw left (spread_ready N k ok.few xs ps short out room n many every)
+    ready short every = rw left (spread_ready N k s.searchable.few xs ps short out room n many every)
 
   module _ (allowance : ℕ) (r : moves.Ended) (after working : List ℕ)
-      (promise : result_is r after working ≡ found_into out work (answered (greedy_pairs k allowance (entries_of bytes s)))) (n : ℕ) (many : n ≡ listed_by (ended_is r)) where
+      (promise : result_is r after working ≡ found_into out work (answered (greedy_pairs k allowance (entries_of s)))) (n : ℕ) (many : n ≡ listed_by (ended_is r)) where
     abbrev answer : Answer
     answer = top_k (height N) N xs k allowance
 
@@ -101,14 +99,14 @@ module _ (bytes : List ℕ) (s : Search) (ok : Searchable bytes s) (k : ℕ) (ou
     greedy_ready = ready (pairs_of answer) after left n listed_is_lem (length-top_k (height N) N xs k allowance) (greedy-counted N k xs (height N) allowance)
 
     pub greedy_placed : (final : List ℕ) → final ≡ overwrite (with_places s.a xs (pairs_in after n)) after
-        → (t : TopK) → top_k_of t ≡ answered (ended_is r) → top_k_is t final working ≡ found_into out work (answered (greedy_of k allowance (entries_of bytes s)))
-    greedy_placed final e t said = λ i. record {
-      outcome = (said ∙ ap answered ended) i;
+        → top_k_is (Ok r) final working ≡ found_into out work (answered (greedy_of k allowance (entries_of s)))
+    greedy_placed final e = λ i. record {
+      outcome = answered (ended i);
       answers = spread (pairs_of answer) after left n listed_is_lem final e i;
       work = ap (λ (x : SearchResult Ended). x.work) promise i;
     }
 
-  module _ (n : ℕ) (after working : List ℕ) (promise : listed_is n after working ≡ found_into out work (answered (probing_pairs k (entries_of bytes s)))) where
+  module _ (n : ℕ) (after working : List ℕ) (promise : listed_is n after working ≡ found_into out work (answered (probing_pairs k (entries_of s)))) where
     abbrev full : List Pair
     full = full_list N k xs
 
@@ -122,13 +120,13 @@ module _ (bytes : List ℕ) (s : Search) (ok : Searchable bytes s) (k : ℕ) (ou
     full-short = length-full N k xs
 
     pub probing_few : n ≤ 4096
-    probing_few = omega (arith, full-listed, full-short, ok.few)
+    probing_few = omega (arith, full-listed, full-short, s.searchable.few)
 
     pub probing_ready : (3 * n ≤ length after) × (n ≤ 4096) × Counted xs (pairs_in after n)
     probing_ready = ready full after full-left n full-listed full-short (full-counted N k xs)
 
     pub probing_placed : (final : List ℕ) → final ≡ overwrite (with_places s.a xs (pairs_in after n)) after
-        → probed_is (probed.Listed n) final working ≡ found_into out work (answered (probing_of k (entries_of bytes s)))
+        → probed_is (Ok n) final working ≡ found_into out work (answered (probing_of k (entries_of s)))
     probing_placed final e = λ i. record {
       outcome = answered (full-listed i);
       answers = spread full after full-left n full-listed final e i;

@@ -1,48 +1,37 @@
 // A question of top-k before the search: the range is known, and the lent slices are measured.
-ghost use Rattle.std.specs.Prelude.{◌≡◌, ◌≤◌, min};
-ghost use Rattle.top_k.specs.Asked.{query_with, query_for};
+ghost use Rattle.std.specs.Prelude.{◌≡◌, ◌*◌, ◌≤◌, min, IfOk};
+ghost use Rattle.archive_ranges.specs.Ranges.{bounds_in, Inside};
+ghost use Rattle.top_k.specs.Asked.{asked_in, posed};
 
-use crate::Query;
-use archive::Layout;
-use archive_ranges::Range;
+use archive::Archive;
+use archive_ranges::Entries;
+use refusals::Refusal;
 use search::Search;
 
-fn lesser(k: u32, n: usize) -> usize
-    ensures { result ≡ min k n }
+// The search of a range of an archive, where slices of the given lengths are lent: refusals 12 and 13 follow those of the range.
+pub fn over<'a>(
+    archive: &Archive<'a>,
+    range: Result<Entries, Refusal>,
+    k: u32,
+    answers: usize,
+    work: usize,
+) -> Result<Search<'a>, Refusal>
+    requires { Inside archive.now.layout.levels.entries range }
+    ensures same { asked_in result ≡ posed archive.now.bytes.now k answers work (bounds_in range) }
+    ensures room { IfOk result (λ s. (3 * min k s.documents ≤ answers) × (4 * s.documents ≤ work)) }
 {
-    if (k as usize) < n { k as usize } else { n }
-}
-
-// Refusals 12 and 13, where slices of the given lengths are lent.
-fn with_room(s: Search, k: u32, answers: usize, work: usize) -> Query
-    requires { s.documents ≤ 4096 }
-    ensures { result ≡ query_with k answers work s }
-{
-    if answers < 3 * lesser(k, s.documents) {
-        return Query::Refused(12);
+    let range = range?;
+    let documents = archive.layout.documents;
+    if answers < 3 * documents.min(k as usize) {
+        return Err(Refusal::AnswerSlice);
     }
-    if work < 4 * s.documents {
-        return Query::Refused(13);
+    if work < 4 * documents {
+        return Err(Refusal::WorkSlice);
     }
-    Query::Over(s)
-}
-
-// A range of an archive with the given layout.
-pub fn over(l: Layout, range: Range, k: u32, answers: usize, work: usize) -> Query
-    requires { l.documents ≤ 4096 }
-    ensures { result ≡ query_for l k answers work range }
-{
-    match range {
-        Range::Refused(number) => Query::Refused(number),
-        Range::Entries { from, to } => {
-            let levels = l.levels;
-            let s = Search {
-                levels,
-                documents: l.documents,
-                a: from as usize,
-                b: to as usize,
-            };
-            with_room(s, k, answers, work)
-        }
-    }
+    Ok(Search {
+        tree: archive.tree(),
+        documents,
+        a: range.from as usize,
+        b: range.to as usize,
+    })
 }

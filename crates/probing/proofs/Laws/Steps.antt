@@ -2,7 +2,7 @@
 use Prim.Native.Nat.{ℕ, zero, suc, ◌+◌, ◌-◌, ◌*◌, ◌/◌, ◌^◌, ◌≤◌, ◌<◌}
 use native.Mathlib.Omega.{arith}
 use native.Mathlib.Nat.{pow-suc}
-use mathlib.Core.Path.{◌≡◌, refl, sym, ap, ◌∙◌}
+use mathlib.Core.Path.{◌≡◌, refl, sym, ap, ◌∙◌, subst⁻¹}
 use mathlib.Core.Logic.{◌⊎◌, inl, inr}
 use mathlib.Core.List.{List}
 use mathlib.Core.Bool.{Bool, true, false, not}
@@ -12,14 +12,14 @@ use lib.Dec.{leb, ltb}
 use borrow.Author.Tests.{ltb-true, eq-eqb, ne_eqb, lt-ltb, le-ltb, lt-leb, le-leb}
 use Rattle.bits.specs.Sequences.{occurrences}
 use Rattle.bits.proofs.Tests.{and_both, le_or_lt}
-use Rattle.model.specs.Lists.{overwrite}
-use Rattle.model.specs.Queries.{quantile, Pair, flat, pair_of, pair, pairs_in}
+use Rattle.model.specs.Lists.{overwrite, Within}
+use Rattle.model.specs.Queries.{quantile, Pair, flat, pair_of, pair, pair_at, pairs_in}
 use Rattle.model.specs.TopK.{insert_pair, full_list}
-use Rattle.model.specs.Probing.{enter, mark, probe, settled, Held, Swept, goes_on}
+use Rattle.model.specs.Probing.{State, enter, mark, probe, settled, Held, Swept, goes_on}
 use Rattle.model.proofs.Probing.Insertion.{length-insert}
 use Rattle.model.proofs.Probing.Held.{held_new, held-sorted, held_few}
 use Rattle.model.proofs.Probing.Probed.{quantile-occurs, quantile_within}
-use Rattle.model.proofs.Probing.Rounds.{swept_stop, probe_again, probe_new}
+use Rattle.model.proofs.Probing.Rounds.{Sweeping, sweeping_probe, swept_stop, probe_again, probe_new}
 use Rattle.model.proofs.Pairs.{length_pairs, get_or-pairs, overwrite-pairs, drop_more}
 use Rattle.probing.specs.Slices.{marked, Room, Entered, Kept, Lent, Power, state_in}
 use Rattle.probing.proofs.Laws.Slices.{marked-at, marked-set}
@@ -107,27 +107,30 @@ module _ {N k : ℕ} {xs work out : List ℕ} (lent : Lent N k xs work out) wher
         pub step_kept : Kept N held more work out (set work d 1) out'
         step_kept = record { more = e.more; marks = drop-set-lt N work d 1 rank_within; rest = e.rest }
 
+-- a probe of a round, at rank r
+pub swept_on : {N k : ℕ} {xs : List ℕ} {g : ℕ} → 0 < g → Within N xs → (r : ℕ) → r < length xs → (work out : List ℕ) (held : ℕ)
+    → Sweeping N k xs g r (marked N work) (pairs_in out held) → (work' out' : List ℕ) (more : ℕ) → state_in N work' out' more ≡ probe k xs r (state_in N work out held)
+    → Sweeping N k xs g (r + 2 * g) (marked N work') (pairs_in out' more)
+swept_on {N} {k} {xs} {g} pos within r l work out held i work' out' more e =
+    subst⁻¹ (λ (t : State). Sweeping N k xs g (r + 2 * g) t.seen t.candidates) e (sweeping_probe pos within r l (state_in N work out held) i)
+
 -- ---- whether another round is to come
 
 pub goes_on_more : (k g : ℕ) (candidates : List Pair) → goes_on k g candidates ≡ true → 1 < g
 goes_on_more k g candidates e = ltb-true 1 g (and_both (ltb 1 g) (not (settled k g candidates)) e).0
 
 module _ (out : List ℕ) (held k g : ℕ) where
-  pub goes_on_last : g ≡ 1 → false ≡ goes_on k g (pairs_in out held)
-  goes_on_last e = rw (le-ltb 1 g (omega arith))
-
   pub goes_on_short : 1 < g → (held ≡ k → ⊥) → true ≡ goes_on k g (pairs_in out held)
   goes_on_short l h = rw (lt-ltb 1 g l, length_pairs out held, ne_eqb held k h)
 
   -- g - 1 is the most that an unseen document may have
-  pub goes_on_full : 1 < g → (j : ℕ) → k ≡ suc j → held ≡ k → leb (get_or out (2 * j + 1) 0) (g - 1) ≡ goes_on k g (pairs_in out held)
-  goes_on_full l j some full =
-      let q : k - 1 ≡ j = omega arith in
-      rw (lt-ltb 1 g l, length_pairs out held, eq-eqb held k full, q, get_or-pairs out held j (omega arith)) (go (get_or out (2 * j + 1) 0) (le_or_lt g (get_or out (2 * j + 1) 0)))
+  pub goes_on_full : 1 < g → 0 < k → held ≡ k → ltb (pair_at out (k - 1)).count g ≡ goes_on k g (pairs_in out held)
+  goes_on_full l some full =
+      rw (lt-ltb 1 g l, length_pairs out held, eq-eqb held k full, get_or-pairs out held (k - 1) (omega arith)) (go (pair_at out (k - 1)).count (le_or_lt g (pair_at out (k - 1)).count))
     where
-      go : (c : ℕ) → (g ≤ c) ⊎ (c < g) → leb c (g - 1) ≡ not (leb g c)
-      go c (inl h) = rw (lt-leb c (g - 1) (omega (arith, l)), le-leb g c h)
-      go c (inr h) = rw (le-leb c (g - 1) (omega (arith, l)), lt-leb g c h)
+      go : (c : ℕ) → (g ≤ c) ⊎ (c < g) → ltb c g ≡ not (leb g c)
+      go c (inl h) = rw (le-ltb c g h, le-leb g c h)
+      go c (inr h) = rw (lt-ltb c g h, lt-leb g c h)
 
 -- ---- steps
 

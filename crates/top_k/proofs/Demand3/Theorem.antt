@@ -17,9 +17,10 @@ use Rattle.model.specs.Demand3.{Room, Demand3}
 use Rattle.model.proofs.Lists.{within_part}
 use Rattle.model.proofs.Format.WriteBack as opened
 use Rattle.search.specs.Sought.{Asked, greedy_of, probing_of}
-use Rattle.moves.specs.declared.TopK.{TopK}
+use Rattle.std.specs.Prelude.{Result}
+use Rattle.refusals.specs.declared.Refusal.{Refusal}
+use Rattle.moves.specs.declared.Ended as moves
 use Rattle.moves.specs.Results.{top_k_of}
-use Rattle.top_k.specs.declared.Probed.{Probed}
 use Rattle.top_k.specs.Asked.{probed_of, with_room, asked}
 use Rattle.top_k.proofs.Demand3.FullList as shown
 use Rattle.top_k.proofs.Demand3.Promises.{front, greedy_accepted, probing_accepted, done_exactly, greedy_done, greedy_spent, greedy_openings, probing-full}
@@ -99,17 +100,17 @@ module _ (bytes : List ℕ) (s : Sizes) (archive : opening bytes ≡ answered s)
 -- ---- the operations
 
 -- what `greedy_entries`, `greedy_terms`, `probing_entries` and `probing_terms` promise, each of the answer and of what the lent slices hold after it
-abbrev pub Greedily : List ℕ → Range → ℕ → ℕ → List ℕ → List ℕ → TopK → List ℕ → List ℕ → Type 0
+abbrev pub Greedily : List ℕ → Range → ℕ → ℕ → List ℕ → List ℕ → Result moves.Ended Refusal → List ℕ → List ℕ → Type 0
 Greedily bytes range k allowance out work answer after working =
     ◌≡◌ {A = SearchResult Ended} (record { outcome = top_k_of answer; answers = after; work = working }) (greedy_result bytes range k allowance out work)
 
-abbrev pub ByProbing : List ℕ → Range → ℕ → List ℕ → List ℕ → Probed → List ℕ → List ℕ → Type 0
+abbrev pub ByProbing : List ℕ → Range → ℕ → List ℕ → List ℕ → Result ℕ Refusal → List ℕ → List ℕ → Type 0
 ByProbing bytes range k out work answer after working =
     ◌≡◌ {A = SearchResult ℕ} (record { outcome = probed_of answer; answers = after; work = working }) (probing_result bytes range k out work)
 
 module _ (bytes : List ℕ) (s : Sizes) (archive : opening bytes ≡ answered s) (k allowance : ℕ)
-    (out work : List ℕ) (room : Room 3 (contents bytes).documents k out work) (answer : TopK) (after working : List ℕ)
-    (out' work' : List ℕ) (room' : Room 3 (contents bytes).documents k out' work') (probed : Probed) (after' working' : List ℕ) where
+    (out work : List ℕ) (room : Room 3 (contents bytes).documents k out work) (answer : Result moves.Ended Refusal) (after working : List ℕ)
+    (out' work' : List ℕ) (room' : Room 3 (contents bytes).documents k out' work') (probed : Result ℕ Refusal) (after' working' : List ℕ) where
   abbrev Demanded : ℕ → List ℕ → Type 0
   Demanded from xs =
       Demand3 (contents bytes).documents k allowance from xs

@@ -8,7 +8,7 @@ tell-requires c =
     let s = c in
     let a = s.args in
     let st = c.step-moved in
-    tellable (ground_of a.bytes.now a.s) a.allowance a.p a.answers.now a.work.now st.result st.new.work st.ensures.work_after
+    tellable (ground_of a.s.now) a.allowance a.p a.answers.now a.work.now st.result st.new.work st.ensures.work_after
     s.requires.room_for s.requires.waiting_nonzero.2 s.ranges.allowance.fits
 
 pub returns : goal.returns
@@ -16,5 +16,5 @@ returns c =
     let a = c.args in
     let st = c.step-moved in
     let t = c.tell in
-    advanced (ground_of a.bytes.now a.s) a.allowance a.p a.answers.now a.work.now st.result st.new.work st.ensures.work_after st.ensures.moves
+    advanced (ground_of a.s.now) a.allowance a.p a.answers.now a.work.now st.result st.new.work st.ensures.work_after st.ensures.moves
     t.result t.ensures.value t.new.answers t.ensures.answers_after

@@ -5,7 +5,7 @@ use Rattle.greedy.specs.Grounds.{ground_of}
 use Rattle.greedy.proofs.run.greedy.Given as goal
 
 abbrev pub invariant-loop-answers : goal.invariant-loop-answers
-invariant-loop-answers l = Searching (ground_of l.bytes l.s) l.k l.allowance l.initial.answers l.initial.work l.answers l.work l.p
+invariant-loop-answers l = Searching (ground_of l.s) l.k l.allowance l.initial.answers l.initial.work l.answers l.work l.p
 
 abbrev pub decreases-loop-answers : goal.decreases-loop-answers
 decreases-loop-answers l = fuel_of l.k l.allowance l.p

@@ -1,7 +1,7 @@
--- `pack`: the numbers fit 32 bits.
+-- `record`: the numbers fit 32 bits.
 use mathlib.Core.Path.{refl}
 use Rattle.greedy.specs.Records.{packed}
-use Rattle.greedy.proofs.node.pack.Goals as goal
+use Rattle.greedy.proofs.node.Node.record.Goals as goal
 
 pub returns : goal.returns
 unfolding packed

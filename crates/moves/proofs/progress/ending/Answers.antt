@@ -1,8 +1,0 @@
--- `ending`: by the flag.
-use Rattle.moves.proofs.progress.ending.Goals as goal
-
-pub returns-then-p : goal.returns-then-p
-returns-then-p c = rw c.if-p.true
-
-pub returns-else-p : goal.returns-else-p
-returns-else-p c = rw c.if-p.false
