@@ -4,15 +4,15 @@ use native.Mathlib.Omega.{arith}
 use native.Mathlib.Decide.{dec_le}
 use mathlib.Core.Path.{◌≡◌, ap, ◌∙◌}
 use mathlib.Core.List.{List}
-use lib.ListN.{length, get_or, length-map}
-use lib.Seq.{sets}
+use lib.ListN.{length, get_or, take, length-map}
+use lib.Seq.{sets, length-take-le, get_or-take}
 use Rattle.bits.specs.Sequences.{below}
 use Rattle.bits.proofs.Tally.{length-up_from, get_or-map-below}
 use Rattle.model.specs.Format.{Library}
 use Rattle.model.proofs.Stores.{sets_before, sets_at}
 use Rattle.bitmaps.specs.Words.{block_height}
 use Rattle.bitmaps.specs.Bitmaps.{term_word, bitmap}
-use Rattle.boolean.specs.Blocks.{Filled}
+use Rattle.boolean.specs.Blocks.{Filled, Below}
 use Rattle.boolean.proofs.Matched.{blocks_few}
 
 module _ (lib : Library) (h : ℕ) (low : h ≤ 12) (terms : List ℕ) where
@@ -39,3 +39,13 @@ module _ (lib : Library) (h : ℕ) (low : h ≤ 12) (terms : List ℕ) where
       go (no s) =
           is ∙ sets_before masks (64 * i) (bitmap lib h (get_or terms i 0)) (64 * k + b) (omega (arith, blocks_few h low))
           ∙ o k b (omega arith) m
+
+  -- the terms of a front part are the first terms
+  pub filled_front : (size : ℕ) (masks : List ℕ) → size ≤ length terms → Filled lib h (take size terms) (length (take size terms)) masks → Filled lib h terms size masks
+  filled_front size masks few f i b l m =
+      f i b (omega (arith, length-take-le size terms few)) m ∙ ap (λ (t : ℕ). term_word lib h t b) (get_or-take size terms i 0 l)
+
+pub below_front : (W size : ℕ) (terms : List ℕ) → size ≤ length terms → Below W terms size → Below W (take size terms) (length (take size terms))
+below_front W size terms few below i l =
+    let m : i < size = omega (arith, length-take-le size terms few) in
+    rw (get_or-take size terms i 0 m) (below i m)

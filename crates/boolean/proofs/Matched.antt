@@ -4,13 +4,14 @@ use native.Mathlib.Nat.{mul-add-div, mul-add-mod_self_left, div-eq_of_lt, mod-eq
 use native.Mathlib.Numerals.{add-one}
 use native.Mathlib.Omega.{arith}
 use native.Mathlib.Decide.{dec_le}
-use mathlib.Core.Path.{◌≡◌, refl, sym, ap, ap₂, ◌∙◌}
+use mathlib.Core.Path.{◌≡◌, refl, sym, ap, ap₂, ◌∙◌, subst}
 use mathlib.Core.List.{List, ◌∷◌, ◌++◌}
 use mathlib.Core.Option.{some}
 use mathlib.Core.Bool.{Bool, cond}
 use lib.ListN.{length, length-append}
 use lib.Seq.{sets, length-sets}
 use lib.Pow.{pow_pos, pow-add, pow_mono}
+use Rattle.std.proofs.lemmas.Grind.{div_ceil_times}
 use Rattle.bits.specs.Sequences.{up_from, below}
 use Rattle.bits.proofs.Tally.{up_from-append, length-up_from, tally_le_length}
 use Rattle.model.specs.Lists.{keep}
@@ -60,6 +61,17 @@ blocks_most h low = pow_mono {i = block_height h} {j = 6} (omega arith)
 
 pub documents_few : (h : ℕ) → h ≤ 12 → 2 ^ h ≤ 4096
 documents_few h low = pow_mono {i = h} {j = 12} low
+
+-- the blocks are as many as hold N documents
+module _ (h N block size blocks : ℕ) (e : size ≡ 2 ^ block_height h) (f : blocks ≡ N / size + min 1 (N % size)) where
+  abbrev all-blocks : (N ≤ blocks * 2 ^ block_height h) × (blocks * 2 ^ block_height h < N + 2 ^ block_height h)
+  all-blocks = rw (f, e) (div_ceil_times N (2 ^ block_height h) (pow_pos (block_height h)))
+
+  pub block_starts : block < blocks → 2 ^ block_height h * block < N
+  block_starts l = omega (arith, all-blocks.1, mul-le-mul_left (2 ^ block_height h) l, mul-suc (2 ^ block_height h) block)
+
+  pub blocks_end : blocks ≤ block → N ≤ 2 ^ block_height h * block
+  blocks_end l = omega (arith, all-blocks.0, mul-le-mul_left (2 ^ block_height h) l)
 
 -- ---- the loop
 
@@ -118,7 +130,19 @@ module _ (masks : List ℕ) (e : Expression) (h : ℕ) where
                 ∙ sym (sets_append before 0 (keep in? (below first)) (members (set block) first n)) ∙ ap (sets before 0) (sym all);
           }
 
+      pub coming_at : (place : ℕ) → first ≡ place → Coming N before found block place answers
+      coming_at place same = subst (λ (f : ℕ). Coming N before found block f answers) same o
+
       pub coming_last : N ≤ first → (found ≡ length (matched masks (some e) h N)) × (answers ≡ sets before 0 (matched masks (some e) h N))
       coming_last l =
           let end : first ≡ N = omega (arith, o.inside) in
           (o.how_many ∙ ap (λ (n : ℕ). length (keep in? (below n))) end, o.stored ∙ ap (λ (n : ℕ). sets before 0 (keep in? (below n))) end)
+
+    -- the turn of a block
+    pub coming_turn : (size block found n r : ℕ) (answers after : List ℕ) → size ≡ w → w * block < N → Coming N before found block (min (w * block) N) answers
+        → n ≡ min size (N - size * block) → r ≡ found + length (members (set block) (size * block) n) → after ≡ sets answers found (members (set block) (size * block) n)
+        → Coming N before r (block + 1) (min (w * (block + 1)) N) after
+    coming_turn size block found n r answers after e l o en er ea =
+        let m : n ≡ min w (N - w * block) = rw e at en in
+        let next = coming_next (coming_at o (w * block) (omega arith)) l n r after m (rw e at er) (rw e at ea) in
+        coming_at next (min (w * (block + 1)) N) (omega (arith, m, ap (λ (x : ℕ). w * x) (add-one block), mul-suc w block))

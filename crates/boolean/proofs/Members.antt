@@ -10,7 +10,7 @@ use mathlib.Core.Bool.{Bool, true, false, cond, false≢true}
 use lib.ListN.{length, set, length-append}
 use lib.Seq.{sets, length-sets}
 use lib.Dec.{eqb}
-use lib.Pow.{pow_pos, pow-add, mod-pow-add}
+use lib.Pow.{pow-add, mod-pow-add}
 use lib.Count.{count_trailing_zeros, under}
 use borrow.Author.Tests.{eq-eqb}
 use Rattle.bits.specs.Sequences.{up_from}

@@ -4,7 +4,10 @@ use native.Mathlib.Numerals.{add-one}
 use native.Mathlib.Omega.{arith}
 use native.Mathlib.Decide.{ℕ_discrete, dec_le}
 use mathlib.Core.Path.{◌≡◌, refl, ap, ◌∙◌}
-use mathlib.Core.List.{List}
+use mathlib.Core.List.{List, [], ◌∷◌}
+use mathlib.Core.Bool.{Bool, ◌||◌}
+use Rattle.std.specs.List.{list_any}
+use Rattle.model.specs.Lists.{any}
 use lib.ListN.{length, get_or, set, take, length-set}
 use lib.Seq.{get_or-set_same, get_or-set_other}
 use lib.Dec.{ltb}
@@ -14,6 +17,11 @@ use Rattle.bits.proofs.Tally.{tally-take-suc, tally-take_le}
 use Rattle.model.specs.Boolean.{words_in}
 use Rattle.model.proofs.Lists.{length-keep}
 use Rattle.boolean.specs.Words.{Placed, Names, Taken, Numbered}
+
+-- a chain over a list asks each of its numbers
+pub any-list : (p : ℕ → Bool) (xs : List ℕ) → list_any p xs ≡ any p xs
+any-list p [] = refl
+any-list p (x ∷ xs) = ap (λ (b : Bool). p x || b) (any-list p xs)
 
 module _ (question : List ℕ) where
   -- how many of the first numbers are words

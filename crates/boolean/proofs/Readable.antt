@@ -4,8 +4,6 @@ use mathlib.Core.Path.{◌≡◌, refl, sym, ap, ◌∙◌}
 use mathlib.Core.Option.{Option, none, some}
 use mathlib.Core.Bool.{Bool, true, false, false≢true}
 use Rattle.model.specs.Grammar.{Expression}
-use Rattle.model.specs.Reading.{evaluate}
-use Rattle.matching.specs.Sets.{sets_by}
 use Rattle.matching.specs.declared.Matching.{Matching}
 use Rattle.matching.specs.declared.Matching.TheVariants.{Documents, NoReading}
 use Rattle.matching.specs.Parsing.{matching_of}

@@ -3,27 +3,23 @@ ghost use Rattle.std.specs.Prelude.{◌≡◌, true, ◌*◌, ◌^◌, ◌≤◌
 ghost use Rattle.std.proofs.lemmas.List.Edits.{sets};
 ghost use Rattle.model.specs.Opening.{contents};
 ghost use Rattle.model.specs.Reading.{reading};
-ghost use Rattle.archive.specs.Layout.{Opened};
 ghost use Rattle.matching.specs.Sets.{set_at};
 ghost use Rattle.boolean.specs.Words.{WordsBelow};
 ghost use Rattle.boolean.specs.Blocks.{Below, Filled, Blank, set_by, is_a_reading, matched};
 
 use crate::documents::put_documents;
-use archive::Layout;
+use archive::{Archive, Layout};
 use bitmaps::put_bitmap;
 use matching::{Matching, matching_set};
 
-// The bitmaps of the first `size` terms, 64 masks each.
-pub fn put_bitmaps(archive: &[u8], l: Layout, terms: &[u16], size: usize, masks: &mut [u64])
-    requires opened { Opened archive.now l }
-    requires size_bound { (size ≤ 32) × (size ≤ length terms.now) × (length masks.old ≡ 2048) }
-    requires below { Below l.terms terms.now size }
-    ensures { Filled (contents archive.now) l.levels.height terms.now size masks.new }
+// The bitmaps of the terms, 64 masks each.
+pub fn put_bitmaps(archive: &Archive<'_>, terms: &[u16], masks: &mut [u64])
+    requires few { (length terms.now ≤ 32) × (length masks.old ≡ 2048) }
+    requires below { Below archive.now.layout.terms terms.now (length terms.now) }
+    ensures { Filled (contents archive.now.bytes.now) archive.now.layout.levels.height terms.now (length terms.now) masks.new }
 {
-    let mut i: usize = 0;
-    while i < size {
-        put_bitmap(archive, l, terms[i] as usize, 64 * i, masks);
-        i += 1;
+    for (i, term) in terms.iter().enumerate() {
+        put_bitmap(archive, *term as usize, 64 * i, masks);
     }
 }
 
@@ -32,13 +28,7 @@ fn block_size(height: usize) -> usize
     requires { height ≤ 12 }
     ensures { result ≡ 2 ^ min 6 height }
 {
-    if height < 6 { 1 << height } else { 64 }
-}
-
-fn least(x: usize, y: usize) -> usize
-    ensures { result ≡ min x y }
-{
-    if x < y { x } else { y }
+    1 << height.min(6)
 }
 
 // Whether none of the first terms has a document in a block.
@@ -46,14 +36,7 @@ fn is_blank(masks: &[u64], terms: usize, block: usize) -> bool
     requires { (64 * terms ≤ length masks.now) × (terms ≤ 32) × (block < 64) }
     ensures { result ≡ true → Blank masks.now terms block }
 {
-    let mut i: usize = 0;
-    while i < terms {
-        if 0 < masks[64 * i + block] {
-            return false;
-        }
-        i += 1;
-    }
-    true
+    (0..terms).all(|i| masks[64 * i + block] == 0)
 }
 
 // The documents of a block that match; none where the question has no reading.
@@ -95,15 +78,12 @@ pub fn put_matching(
 {
     let size = block_size(l.levels.height);
     let blank = set_in(question, &[0u64; 1], 0);
-    let mut found: usize = 0;
-    let mut block: usize = 0;
-    let mut first: usize = 0;
-    while first < l.documents {
+    let mut found = 0;
+    for block in 0..l.documents.div_ceil(size) {
+        let first = size * block;
         let set = set_of(question, masks, terms, block, blank);
-        let some = least(size, l.documents - first);
+        let some = size.min(l.documents - first);
         found = put_documents(set, first, some, found, answers);
-        block += 1;
-        first += some;
     }
     found
 }

@@ -17,7 +17,7 @@ fn before_first(set: u64) -> usize
     requires { 0 < set }
     ensures { First set result }
 {
-    u64::trailing_zeros(set) as usize
+    set.trailing_zeros() as usize
 }
 
 // One document.
@@ -33,10 +33,8 @@ fn put_eight(document: usize, place: usize, answers: &mut [u32])
     requires { (place + 8 ≤ length answers.old) × (document + 8 < 2 ^ 32) }
     ensures { answers.new ≡ sets answers.old place (up_from document 8) }
 {
-    let mut k: usize = 0;
-    while k < 8 {
+    for k in 0..8 {
         answers[place + k] = (document + k) as u32;
-        k += 1;
     }
 }
 
@@ -46,9 +44,10 @@ pub fn put_documents(set: u64, first: usize, size: usize, at: usize, answers: &m
     requires { (size ≤ 64) × (first + size < 2 ^ 32) × (at + size ≤ length answers.old) }
     ensures { (result ≡ at + length (members set first size)) × (answers.new ≡ sets answers.old at (members set first size)) }
 {
+    // What is left of the set decides each turn, so this stays a while: there is no list to go over.
     let mut left = among(set, size);
     let mut place = at;
-    let mut i: usize = 0;
+    let mut i = 0;
     while 0 < left {
         if left % 256 == 255 {
             put_eight(first + i, place, answers);

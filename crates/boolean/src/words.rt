@@ -1,5 +1,5 @@
 // The words of a question: those that are no terms of the archive, and each different one once, with a number of its own.
-ghost use Rattle.std.specs.Prelude.{◌≡◌, ◌&&◌, ◌≤◌, ◌<◌, max, leb, ltb, length, get_or};
+ghost use Rattle.std.specs.Prelude.{◌≡◌, ◌&&◌, ◌≤◌, ◌<◌, leb, ltb, length};
 ghost use Rattle.model.specs.Lists.{any};
 ghost use Rattle.model.specs.Boolean.{words_in};
 ghost use Rattle.boolean.specs.Words.{Placed, Numbered};
@@ -17,29 +17,7 @@ fn is_missing(l: Layout, number: u16) -> bool
 pub fn word_missing(l: Layout, question: &[u16]) -> bool
     ensures { result ≡ any (leb l.terms) (words_in question.now) }
 {
-    let mut i: usize = 0;
-    while i < question.len() {
-        if is_missing(l, question[i]) {
-            return true;
-        }
-        i += 1;
-    }
-    false
-}
-
-// Which of the first `size` terms a word is; `size` where it is none of them.
-fn find(terms: &[u16], size: usize, word: u16) -> usize
-    requires { size ≤ length terms.now }
-    ensures { (result ≤ size) × (result < size → get_or terms.now result 0 ≡ word) }
-{
-    let mut i: usize = 0;
-    while i < size {
-        if terms[i] == word {
-            return i;
-        }
-        i += 1;
-    }
-    size
+    question.iter().any(|number| is_missing(l, *number))
 }
 
 // The place of a word among the terms: where it stands, or after the first `size`, where it is put then.
@@ -47,37 +25,30 @@ fn place_of(terms: &mut [u16], size: usize, word: u16) -> usize
     requires { size < length terms.old }
     ensures { (result ≤ size) × Placed terms.old size word result terms.new }
 {
-    let at = find(terms, size, word);
-    if at < size {
-        return at;
+    match terms[..size].iter().position(|term| *term == word) {
+        Some(at) => at,
+        None => {
+            terms[size] = word;
+            size
+        }
     }
-    terms[size] = word;
-    size
 }
 
-fn most(x: usize, y: usize) -> usize
-    ensures { result ≡ max x y }
-{
-    if x < y { y } else { x }
-}
-
-// The different words of a question, and the question with the place of each word among them instead of it; how many they are.
+// The different words of a question, and the question with the place of each word among them instead of it; how many they are. Without a heap the words
+// stand in an array with their number beside it.
 pub fn number_words(question: &[u16], terms: &mut [u16], numbered: &mut [u16]) -> usize
     requires { (length question.now ≤ 64) × (length (words_in question.now) ≤ 32) × (length terms.old ≡ 32) × (length numbered.old ≡ 64) }
     ensures { Numbered question.now (length question.now) terms.new result numbered.new }
 {
-    let mut size: usize = 0;
-    let mut i: usize = 0;
-    while i < question.len() {
-        let number = question[i];
+    let mut size = 0;
+    for (i, number) in question.iter().enumerate() {
+        let number = *number;
         if number < 4096 {
             let at = place_of(terms, size, number);
             numbered[i] = at as u16;
-            size = most(size, at + 1);
-            i += 1;
+            size = size.max(at + 1);
         } else {
             numbered[i] = number;
-            i += 1;
         }
     }
     size

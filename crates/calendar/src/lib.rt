@@ -10,6 +10,7 @@ ghost use Rattle.calendar.specs.Kinds.{kinds, in_year};
 const LENGTHS: [u32; 13] = [0, 31, 28, 31, 30, 31, 30, 31, 31, 30, 31, 30, 31];
 
 // The days of a year by month and day, four digits, a line a month from month 0: `d` for a day of every year, `l` for 29 February.
+// Bytes and no enum: so the table reads as a calendar, where 1,300 names would not.
 const KINDS: [u8; 1300] = *b"\
     ....................................................................................................\
     .ddddddddddddddddddddddddddddddd....................................................................\
@@ -137,12 +138,10 @@ pub fn days_hold(days: &[u32], day: u32, documents: usize) -> bool
     if !is_day(day) {
         return false;
     }
-    let mut d = 0;
-    while d < documents {
+    for d in 0..documents {
         if !pair_holds(days, d, &table) {
             return false;
         }
-        d = d + 1;
     }
     true
 }

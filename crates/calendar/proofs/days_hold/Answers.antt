@@ -32,9 +32,6 @@ returns-then-not-pair_holds c =
     let p = c.pair_holds in
     wrong-pair c.loop-d.invariant (omega arith) (sym p.ensures ∙ c.if-not-pair_holds.true)
 
-pub loop-d-smaller : goal.loop-d-smaller
-loop-d-smaller c = omega arith
-
 pub loop-d-preserved : goal.loop-d-preserved
 loop-d-preserved c =
     let p = c.pair_holds in

@@ -1,26 +1,21 @@
--- `is_blank` meets its contract.
-use native.Mathlib.Omega.{arith}
-use mathlib.Core.Bool.{false≢true}
-use Rattle.boolean.proofs.Blanks.{blank_next}
+-- `is_blank` meets its contract: each mask is asked.
+use Rattle.std.proofs.Common.{refl, sym, ◌∙◌, rules, tests, arith, ◌+◌, ◌*◌, eqb, get_or}
+use Rattle.std.proofs.lemmas.Iterator.{YieldsList-from_range, serves_from_Range}
+use Rattle.std.proofs.lemmas.Iterator.Search.{all_from_yields_List}
+use borrow.Author.Tests.{eqb-true}
+use Rattle.bits.proofs.Tally.{all-up_from-at}
+use Rattle.archive.proofs.Parts.{all-range}
 use Rattle.boolean.proofs.blocks.is_blank.Goals as goal
 
-pub loop-i-init : goal.loop-i-init
-loop-i-init c = (omega arith, λ i l. absurd (omega arith))
-
-pub offset_bounds-masks-i : goal.offset_bounds-masks-i
-offset_bounds-masks-i c = record { fits = omega (arith, c.requires) }
-
-pub bounds-masks-i : goal.bounds-masks-i
-bounds-masks-i c = omega (arith, c.requires)
-
-pub returns-then-masks-i-gt0 : goal.returns-then-masks-i-gt0
-returns-then-masks-i-gt0 c = λ e. absurd (false≢true e)
-
-pub loop-i-preserved : goal.loop-i-preserved
-loop-i-preserved c =
-    let k = c.loop-i in
-    let g = c.args in
-    (omega arith, blank_next g.masks.now k.i g.block k.invariant.1 (omega (arith, c.if-masks-i-gt0.false)))
+pub all-requires-clause-callable : goal.all-requires-clause-callable
+all-requires-clause-callable c = serves_from_Range (λ x q k. search (rules, tests)) (λ x low high. search rules)
 
 pub returns : goal.returns
-returns c = λ _ i l. c.loop-i.invariant.1 i (omega arith)
+returns c =
+    let masks = c.args.masks.now in
+    let b = c.args.block in
+    let n = c.args.terms in
+    let r =
+    all_from_yields_List (λ i. eqb (get_or masks (64 * i + b) 0) 0) _ _ _ c.all.ensures.ran (YieldsList-from_range 0 n n refl (omega arith)) (λ x b q k. search (rules, tests))
+    ∙ all-range (λ i. eqb (get_or masks (64 * i + b) 0) 0) 0 n in
+    λ e i l. eqb-true (get_or masks (64 * i + b) 0) 0 (all-up_from-at (λ i. eqb (get_or masks (64 * i + b) 0) 0) 0 n (sym r ∙ e) i (omega arith) (omega arith))

@@ -1,109 +1,63 @@
 -- `put_matching` meets its contract: each turn of the loop is a law of Matched.
-use Prim.Native.Nat.{ℕ, ◌-◌, ◌<◌, min}
-use native.Mathlib.Omega.{arith}
-use mathlib.Core.Path.{ap, ◌∙◌}
-use mathlib.Core.Option.{some}
-use lib.Pow.{pow_pos}
+use Rattle.std.proofs.Common.{ℕ, ap, ◌∙◌, arith, ◌*◌, ◌^◌, refl, min}
 use Rattle.model.specs.Reading.{reading}
 use Rattle.matching.specs.Sets.{set_at}
 use Rattle.bitmaps.specs.Words.{block_height}
 use Rattle.boolean.specs.Blocks.{set_by}
-use Rattle.boolean.proofs.Matched.{coming_first, coming_length, coming_room, coming_next, coming_last, block_lt, blocks_few, blocks_most, documents_few}
+use Rattle.boolean.proofs.Matched.{coming_first, coming_at, coming_length, coming_room, coming_turn, coming_last, block_lt, blocks_few, blocks_most, documents_few, block_starts, blocks_end}
 use Rattle.boolean.proofs.Readable.{read_some}
-use Rattle.boolean.proofs.Blanks.{no_masks}
 use Rattle.boolean.proofs.blocks.put_matching.Goals as goal
 
-pub loop-first-init : goal.loop-first-init
-loop-first-init c =
+pub loop-block-init : goal.loop-block-init
+loop-block-init c =
     let g = c.args in
-    λ e h. coming_first g.masks.now e g.l.levels.height g.l.documents g.answers.now
+    let h = g.l.levels.height in
+    λ e r. coming_at g.masks.now e h g.l.documents g.answers.now (coming_first g.masks.now e h g.l.documents g.answers.now) (min (2 ^ block_height h * 0) g.l.documents) (omega arith)
 
-pub set_of-set-requires : goal.set_of-set-requires
-set_of-set-requires c =
-    let s = c in
-    let g = s.args in
-    let k = c.loop-first in
-    let x = read_some (reading g.question.now) s.requires.question_value in
-    let o = k.invariant x.0 x.1 in
-    let few : k.block < 64 = omega (
-      arith,
-      block_lt g.l.levels.height g.l.documents k.block k.first s.requires.height_bound.1 (omega arith) (o.aligned (omega arith)),
-      blocks_few g.l.levels.height s.requires.height_bound.0,
-    ) in record {
-      terms_in_bounds = (s.requires.terms_in_bounds.0, s.requires.terms_in_bounds.1, few, s.requires.terms_in_bounds.2);
-      words_below = (s.requires.terms_in_bounds.3, c.set_in-blank.ensures ∙ no_masks (reading g.question.now));
-    }
+pub set_of-set-requires-clause-terms_in_bounds : goal.set_of-set-requires-clause-terms_in_bounds
+set_of-set-requires-clause-terms_in_bounds c =
+    let l = c.args.l in
+    let h = l.levels.height in
+    let k = c.loop-block in
+    let start = block_starts h l.documents k.block c.block_size-size.result c.div_ceil-block-end.result c.block_size-size.ensures c.div_ceil-block-end.ensures c.loop-block-test.true in
+    let few = block_lt h l.documents k.block (2 ^ block_height h * k.block) c.requires.height_bound.1 start refl in
+    (c.requires.terms_in_bounds.0, c.requires.terms_in_bounds.1, omega (arith, few, blocks_few h c.requires.height_bound.0), c.requires.terms_in_bounds.2)
 
 pub put_documents-found-requires : goal.put_documents-found-requires
 put_documents-found-requires c =
-    let s = c in
-    let g = s.args in
-    let k = c.loop-first in
-    let x = read_some (reading g.question.now) s.requires.question_value in
-    let o = k.invariant x.0 x.1 in
+    let g = c.args in
+    let h = g.l.levels.height in
+    let k = c.loop-block in
     let size = c.block_size-size.ensures in
-    let most = blocks_most g.l.levels.height s.requires.height_bound.0 in
-    let n = c.least-some.ensures in (
+    let start = block_starts h g.l.documents k.block c.block_size-size.result c.div_ceil-block-end.result size c.div_ceil-block-end.ensures c.loop-block-test.true in
+    let x = read_some (reading g.question.now) c.requires.question_value in
+    let o = coming_at g.masks.now x.0 h g.l.documents g.answers.now (k.invariant x.0 x.1) (2 ^ block_height h * k.block) (omega (arith, start)) in
+    let most = blocks_most h c.requires.height_bound.0 in
+    let first = ap (λ (s : ℕ). s * k.block) size in
+    let n = c.min-some.ensures in (
       omega (arith, n, size, most),
-      omega (arith, n, size, most, o.inside, s.requires.height_bound.1, documents_few g.l.levels.height s.requires.height_bound.0),
-      omega (arith, n, o.inside, coming_room g.masks.now x.0 g.l.levels.height g.l.documents g.answers.now o, coming_length g.masks.now x.0 g.l.levels.height g.l.documents g.answers.now o, s.requires.height_bound.2),
+      omega (arith, n, size, most, first, start, c.requires.height_bound.1, documents_few h c.requires.height_bound.0),
+      omega (arith, n, first, start, coming_room g.masks.now x.0 h g.l.documents g.answers.now o, coming_length g.masks.now x.0 h g.l.documents g.answers.now o, c.requires.height_bound.2),
     )
 
-pub overflow_add-block : goal.overflow_add-block
-overflow_add-block c =
-    let s = c in
-    let g = s.args in
-    let k = c.loop-first in
-    let x = read_some (reading g.question.now) s.requires.question_value in
-    let o = k.invariant x.0 x.1 in
-    record {
-      fits = omega (
-        arith,
-        block_lt g.l.levels.height g.l.documents k.block k.first s.requires.height_bound.1 (omega arith) (o.aligned (omega arith)),
-        blocks_few g.l.levels.height s.requires.height_bound.0,
-      );
-    }
-
-pub overflow_add-first : goal.overflow_add-first
-overflow_add-first c =
-    let s = c in
-    let g = s.args in
-    let k = c.loop-first in
-    let x = read_some (reading g.question.now) s.requires.question_value in
-    let o = k.invariant x.0 x.1 in
-    record { fits = omega (arith, c.least-some.ensures, o.inside, s.requires.height_bound.1, documents_few g.l.levels.height s.requires.height_bound.0) }
-
-pub loop-first-smaller : goal.loop-first-smaller
-loop-first-smaller c =
+pub loop-block-preserved : goal.loop-block-preserved
+loop-block-preserved c =
     let g = c.args in
-    omega (arith, c.least-some.ensures, c.block_size-size.ensures, pow_pos (block_height g.l.levels.height))
-
-pub loop-first-preserved : goal.loop-first-preserved
-loop-first-preserved c =
-    let s = c in
-    let g = s.args in
-    let k = c.loop-first in
+    let h = g.l.levels.height in
+    let k = c.loop-block in
+    let size = c.block_size-size.ensures in
+    let start = block_starts h g.l.documents k.block c.block_size-size.result c.div_ceil-block-end.result size c.div_ceil-block-end.ensures c.loop-block-test.true in
     let p = c.put_documents-found in
-    λ e h.
-    let is = c.set_of-set.ensures ∙ ap (set_by (set_at g.masks.now k.block)) h in
-    let some = c.least-some.ensures ∙ ap (λ (n : ℕ). min n (g.l.documents - k.first)) c.block_size-size.ensures in
-    coming_next g.masks.now e g.l.levels.height g.l.documents g.answers.now (k.invariant e h) (omega arith) c.least-some.result p.result
-    p.new.answers some (rw (← is) p.ensures.0) (rw (← is) p.ensures.1)
-
-pub shape_of-answers : goal.shape_of-answers
-shape_of-answers c =
-    let s = c in
-    let g = s.args in
-    let k = c.loop-first in
-    let x = read_some (reading g.question.now) s.requires.question_value in
-    let o = k.invariant x.0 x.1 in
-    coming_length g.masks.now x.0 g.l.levels.height g.l.documents g.answers.now o
+    λ e r.
+    let is = c.set_of-set.ensures ∙ ap (set_by (set_at g.masks.now k.block)) r in
+    coming_turn g.masks.now e h g.l.documents g.answers.now c.block_size-size.result k.block k.found c.min-some.result p.result k.answers p.new.answers size start
+    (k.invariant e r) c.min-some.ensures (rw (← is) p.ensures.0) (rw (← is) p.ensures.1)
 
 pub returns : goal.returns
 returns c =
-    let s = c in
-    let g = s.args in
-    let k = c.loop-first in
-    let x = read_some (reading g.question.now) s.requires.question_value in
-    let o = k.invariant x.0 x.1 in
-    rw x.1 (coming_last g.masks.now x.0 g.l.levels.height g.l.documents g.answers.now o (omega arith))
+    let g = c.args in
+    let h = g.l.levels.height in
+    let k = c.loop-block in
+    let x = read_some (reading g.question.now) c.requires.question_value in
+    let end = blocks_end h g.l.documents k.block c.block_size-size.result c.div_ceil-block-end.result c.block_size-size.ensures c.div_ceil-block-end.ensures c.loop-block-test.false in
+    rw x.1 (coming_last g.masks.now x.0 h g.l.documents g.answers.now (k.invariant x.0 x.1) (omega (arith, end)))

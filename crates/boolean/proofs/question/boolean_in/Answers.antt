@@ -8,6 +8,7 @@ use Rattle.model.specs.Opening.{contents}
 use Rattle.model.specs.Reading.{reading}
 use Rattle.archive.proofs.Opened.{stored, documents_fit, documents-are}
 use Rattle.boolean.specs.Blocks.{matched}
+use Rattle.boolean.proofs.Filling.{filled_front, below_front}
 use Rattle.boolean.proofs.Readable.{read_some}
 use Rattle.boolean.proofs.Renaming.{named-length, named-below, named-read, matched-are}
 use Rattle.boolean.proofs.Answered.{read_few, read-words, words_few, terms_known, found_front}
@@ -19,15 +20,24 @@ number_words-size-requires c =
     let g = s.args in
     (read_few g.question.now s.requires.question_value.0, read-words g.question.now s.requires.question_value.0, refl, refl)
 
+pub slice_bounds-terms-end : goal.slice_bounds-terms-end
+slice_bounds-terms-end c =
+    let n = c.number_words-size.ensures in
+    omega (arith, words_few c.args.question.now c.requires.question_value.0 n, n.room.0)
+
+pub slice_bounds-put_bitmaps-end : goal.slice_bounds-put_bitmaps-end
+slice_bounds-put_bitmaps-end c =
+    let n = c.number_words-size.ensures in
+    sym (length-take-le c.number_words-size.result c.number_words-size.new.terms (omega (arith, words_few c.args.question.now c.requires.question_value.0 n, n.room.0)))
+
 pub put_bitmaps-requires : goal.put_bitmaps-requires
 put_bitmaps-requires c =
-    let s = c in
-    let g = s.args in
-    let n = c.number_words-size.ensures in
-    let few = words_few g.question.now s.requires.question_value.0 n in record {
-      opened = s.requires.opened;
-      size_bound = (few, omega (arith, few, n.room.0), refl);
-      below = terms_known g.l.terms g.question.now c.number_words-size.new.terms c.number_words-size.new.numbered c.number_words-size.result s.requires.question_value.1 n;
+    let w = c.number_words-size in
+    let few = words_few c.args.question.now c.requires.question_value.0 w.ensures in
+    let room : w.result ≤ length w.new.terms = omega (arith, few, w.ensures.room.0) in record {
+      few = (omega (arith, few, length-take-le w.result w.new.terms room), refl);
+      below = below_front c.args.archive.now.layout.terms w.result w.new.terms room
+          (terms_known c.args.archive.now.layout.terms c.args.question.now w.new.terms w.new.numbered w.result c.requires.question_value.1 w.ensures);
     }
 
 pub slice_bounds-numbered-end : goal.slice_bounds-numbered-end
@@ -46,20 +56,22 @@ pub put_matching-requires : goal.put_matching-requires
 put_matching-requires c =
     let s = c in
     let g = s.args in
-    let o = s.requires.opened in
+    let o = g.archive.now.opened in
     let n = c.number_words-size in
+    let filled = filled_front (contents g.archive.now.bytes.now) g.archive.now.layout.levels.height (stored g.archive.now.bytes.now g.archive.now.layout o).low n.new.terms n.result c.put_bitmaps.new.masks
+    (omega (arith, words_few g.question.now s.requires.question_value.0 n.ensures, n.ensures.room.0)) c.put_bitmaps.ensures in
     let x = read_some (reading g.question.now) s.requires.question_value.0 in
-    let read = named-read (contents g.archive.now) g.l.levels.height (stored g.archive.now g.l o).low g.question.now n.new.terms n.new.numbered
+    let read = named-read (contents g.archive.now.bytes.now) g.archive.now.layout.levels.height (stored g.archive.now.bytes.now g.archive.now.layout o).low g.question.now n.new.terms n.new.numbered
     c.put_bitmaps.new.masks n.result (read_few g.question.now s.requires.question_value.0) n.ensures (words_few g.question.now s.requires.question_value.0 n.ensures)
-    c.put_bitmaps.ensures x.0 x.1 in
-    let low = (stored g.archive.now g.l o).low in
+    filled x.0 x.1 in
+    let low = (stored g.archive.now.bytes.now g.archive.now.layout o).low in
     let few = read_few g.question.now s.requires.question_value.0 in
     let small = words_few g.question.now s.requires.question_value.0 n.ensures in
-    let below = named-below (contents g.archive.now) g.l.levels.height low g.question.now n.new.terms n.new.numbered
-    c.put_bitmaps.new.masks n.result few n.ensures small c.put_bitmaps.ensures in
-    let same = named-length (contents g.archive.now) g.l.levels.height low g.question.now n.new.terms n.new.numbered
-    c.put_bitmaps.new.masks n.result few n.ensures small c.put_bitmaps.ensures in record {
-      height_bound = (low, documents_fit g.archive.now g.l o, s.requires.question_value.2);
+    let below = named-below (contents g.archive.now.bytes.now) g.archive.now.layout.levels.height low g.question.now n.new.terms n.new.numbered
+    c.put_bitmaps.new.masks n.result few n.ensures small filled in
+    let same = named-length (contents g.archive.now.bytes.now) g.archive.now.layout.levels.height low g.question.now n.new.terms n.new.numbered
+    c.put_bitmaps.new.masks n.result few n.ensures small filled in record {
+      height_bound = (low, documents_fit g.archive.now.bytes.now g.archive.now.layout o, s.requires.question_value.2);
       terms_in_bounds = (omega (arith, small), small, omega (arith, same, few), below);
       question_value = read;
     }
@@ -69,20 +81,22 @@ shape_of-answers c =
     let s = c in
     let g = s.args in
     ap length c.put_matching.ensures.1 ∙ length-sets g.answers.now 0
-    (matched c.put_bitmaps.new.masks (reading (take (length g.question.now) c.number_words-size.new.numbered)) g.l.levels.height g.l.documents)
+    (matched c.put_bitmaps.new.masks (reading (take (length g.question.now) c.number_words-size.new.numbered)) g.archive.now.layout.levels.height g.archive.now.layout.documents)
 
 pub returns : goal.returns
 returns c =
     let s = c in
     let g = s.args in
-    let o = s.requires.opened in
+    let o = g.archive.now.opened in
     let n = c.number_words-size in
+    let filled = filled_front (contents g.archive.now.bytes.now) g.archive.now.layout.levels.height (stored g.archive.now.bytes.now g.archive.now.layout o).low n.new.terms n.result c.put_bitmaps.new.masks
+    (omega (arith, words_few g.question.now s.requires.question_value.0 n.ensures, n.ensures.room.0)) c.put_bitmaps.ensures in
     let m = c.put_matching in
     let x = read_some (reading g.question.now) s.requires.question_value.0 in
-    let same = matched-are (contents g.archive.now) g.l.levels.height (stored g.archive.now g.l o).low g.question.now n.new.terms n.new.numbered
+    let same = matched-are (contents g.archive.now.bytes.now) g.archive.now.layout.levels.height (stored g.archive.now.bytes.now g.archive.now.layout o).low g.question.now n.new.terms n.new.numbered
     c.put_bitmaps.new.masks n.result (read_few g.question.now s.requires.question_value.0) n.ensures (words_few g.question.now s.requires.question_value.0 n.ensures)
-    c.put_bitmaps.ensures
-    g.l.documents (documents_fit g.archive.now g.l o) (documents-are g.archive.now g.l o) x.0 x.1 in
-    let room : (contents g.archive.now).documents ≤ length g.answers.now = omega (arith, s.requires.question_value.2, documents-are g.archive.now g.l o) in
-    found_front (contents g.archive.now) (reading g.question.now) x.0
-    (matched c.put_bitmaps.new.masks (reading (take (length g.question.now) c.number_words-size.new.numbered)) g.l.levels.height g.l.documents) g.answers.now m.new.answers m.result x.1 same room m.ensures.0 m.ensures.1
+    filled
+    g.archive.now.layout.documents (documents_fit g.archive.now.bytes.now g.archive.now.layout o) (documents-are g.archive.now.bytes.now g.archive.now.layout o) x.0 x.1 in
+    let room : (contents g.archive.now.bytes.now).documents ≤ length g.answers.now = omega (arith, s.requires.question_value.2, documents-are g.archive.now.bytes.now g.archive.now.layout o) in
+    found_front (contents g.archive.now.bytes.now) (reading g.question.now) x.0
+    (matched c.put_bitmaps.new.masks (reading (take (length g.question.now) c.number_words-size.new.numbered)) g.archive.now.layout.levels.height g.archive.now.layout.documents) g.answers.now m.new.answers m.result x.1 same room m.ensures.0 m.ensures.1

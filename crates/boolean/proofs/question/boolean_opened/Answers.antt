@@ -11,27 +11,23 @@ pub returns-then-not-has_reading : goal.returns-then-not-has_reading
 returns-then-not-has_reading c =
     let s = c in
     let g = s.args in
-    comes_unread g.archive.now g.l s.requires g.question.now g.answers.now (sym c.has_reading.ensures ∙ c.if-not-has_reading.true)
+    comes_unread g.archive.now.bytes.now g.archive.now.layout g.archive.now.opened g.question.now g.answers.now (sym c.has_reading.ensures ∙ c.if-not-has_reading.true)
 
 pub returns-then-word_missing : goal.returns-then-word_missing
 returns-then-word_missing c =
     let s = c in
     let g = s.args in
-    comes_missing g.archive.now g.l s.requires g.question.now g.answers.now (sym c.has_reading.ensures ∙ c.if-not-has_reading.false) (sym c.word_missing.ensures ∙ c.if-word_missing.true)
+    comes_missing g.archive.now.bytes.now g.archive.now.layout g.archive.now.opened g.question.now g.answers.now (sym c.has_reading.ensures ∙ c.if-not-has_reading.false) (sym c.word_missing.ensures ∙ c.if-word_missing.true)
 
-pub returns-then-answers-l : goal.returns-then-answers-l
-returns-then-answers-l c =
+pub returns-then-answers-archive : goal.returns-then-answers-archive
+returns-then-answers-archive c =
     let s = c in
     let g = s.args in
-    comes_short g.archive.now g.l s.requires g.question.now g.answers.now (sym c.has_reading.ensures ∙ c.if-not-has_reading.false) (sym c.word_missing.ensures ∙ c.if-word_missing.false) (omega arith)
+    comes_short g.archive.now.bytes.now g.archive.now.layout g.archive.now.opened g.question.now g.answers.now (sym c.has_reading.ensures ∙ c.if-not-has_reading.false) (sym c.word_missing.ensures ∙ c.if-word_missing.false) (omega arith)
 
 pub boolean_in-requires : goal.boolean_in-requires
 boolean_in-requires c =
-    let s = c in
-    let g = s.args in record {
-      opened = s.requires;
-      question_value = (sym c.has_reading.ensures ∙ c.if-not-has_reading.false, sym c.word_missing.ensures ∙ c.if-word_missing.false, omega arith);
-    }
+    record { question_value = (sym c.has_reading.ensures ∙ c.if-not-has_reading.false, sym c.word_missing.ensures ∙ c.if-word_missing.false, omega arith) }
 
 pub overflow_cast-result : goal.overflow_cast-result
 overflow_cast-result c =
@@ -40,9 +36,9 @@ overflow_cast-result c =
     record {
       fits = omega (
         arith,
-        found_le (contents g.archive.now) (reading g.question.now) c.boolean_in.result g.answers.now c.boolean_in.new.answers c.boolean_in.ensures,
-        documents-are g.archive.now g.l s.requires,
-        (fitting g.archive.now g.l s.requires).documents,
+        found_le (contents g.archive.now.bytes.now) (reading g.question.now) c.boolean_in.result g.answers.now c.boolean_in.new.answers c.boolean_in.ensures,
+        documents-are g.archive.now.bytes.now g.archive.now.layout g.archive.now.opened,
+        (fitting g.archive.now.bytes.now g.archive.now.layout g.archive.now.opened).documents,
       );
     }
 
@@ -50,4 +46,4 @@ pub returns : goal.returns
 returns c =
     let s = c in
     let g = s.args in
-    comes_found g.archive.now g.l s.requires g.question.now g.answers.now (sym c.has_reading.ensures ∙ c.if-not-has_reading.false) (sym c.word_missing.ensures ∙ c.if-word_missing.false) (omega arith) c.boolean_in.result c.boolean_in.new.answers c.boolean_in.ensures
+    comes_found g.archive.now.bytes.now g.archive.now.layout g.archive.now.opened g.question.now g.answers.now (sym c.has_reading.ensures ∙ c.if-not-has_reading.false) (sym c.word_missing.ensures ∙ c.if-word_missing.false) (omega arith) c.boolean_in.result c.boolean_in.new.answers c.boolean_in.ensures

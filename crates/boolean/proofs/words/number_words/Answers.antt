@@ -1,78 +1,33 @@
 -- `number_words` meets its contract: each turn of the loop is a law of Numbering.
-use native.Mathlib.Omega.{arith}
-use mathlib.Core.Path.{◌≡◌, sym, ◌∙◌}
-use lib.ListN.{length}
+use Rattle.std.proofs.Common.{arith}
 use Rattle.boolean.proofs.Numbering.{numbered_first, room_for, numbered_word, numbered_other}
+use Rattle.boolean.proofs.words.number_words.Goals.{then-number-lt4096, else-number-lt4096}
 use Rattle.boolean.proofs.words.number_words.Goals as goal
 
 pub loop-i-init : goal.loop-i-init
-loop-i-init c =
-    let s = c in
-    let g = s.args in
-    (numbered_first g.question.now g.terms.now g.numbered.now s.requires.2 s.requires.3, omega arith)
+loop-i-init c = numbered_first c.args.question.now c.args.terms.now c.args.numbered.now c.requires.2 c.requires.3
 
 pub place_of-at-requires : goal.place_of-at-requires
-place_of-at-requires c =
-    let s = c in
-    let g = s.args in
-    let k = c.loop-i in
-    room_for g.question.now k.invariant.0 (omega arith) s.requires.0 s.requires.1 (omega arith)
+place_of-at-requires c = room_for c.args.question.now c.loop-i.invariant c.loop-i-test.true c.requires.0 c.requires.1 c.if-number-lt4096.true
 
 pub overflow_cast-numbered : goal.overflow_cast-numbered
 overflow_cast-numbered c =
-    let s = c in
-    let g = s.args in
-    let k = c.loop-i in
-    let room = room_for g.question.now k.invariant.0 (omega arith) s.requires.0 s.requires.1 (omega arith) in
-    record { fits = omega (arith, room, k.invariant.0.room.0, c.place_of-at.ensures.0) }
-
-pub bounds-numbered-i : goal.bounds-numbered-i
-bounds-numbered-i c =
-    let s = c in
-    let g = s.args in
-    let k = c.loop-i in
-    omega (arith, k.invariant.0.room.1, s.requires.0)
+    let room = room_for c.args.question.now c.loop-i.invariant c.loop-i-test.true c.requires.0 c.requires.1 c.if-number-lt4096.true in
+    record { fits = omega (arith, room, c.loop-i.invariant.room.0, c.place_of-at.ensures.0) }
 
 pub overflow_add-at : goal.overflow_add-at
 overflow_add-at c =
-    let s = c in
-    let g = s.args in
-    let k = c.loop-i in
-    let room = room_for g.question.now k.invariant.0 (omega arith) s.requires.0 s.requires.1 (omega arith) in
-    record { fits = omega (arith, room, k.invariant.0.room.0, c.place_of-at.ensures.0) }
-
-pub loop-i-preserved-then-number-lt4096 : goal.loop-i-preserved-then-number-lt4096
-loop-i-preserved-then-number-lt4096 c =
-    let s = c in
-    let g = s.args in
-    let k = c.loop-i in
-    let p = c.place_of-at in
-    (rw c.most-size.ensures (numbered_word g.question.now k.invariant.0 (omega arith) s.requires.0 p.result p.new.terms (omega arith) p.ensures.0 p.ensures.1), omega arith)
-
-pub bounds-numbered-i-else-number-lt4096 : goal.bounds-numbered-i-else-number-lt4096
-bounds-numbered-i-else-number-lt4096 c =
-    let s = c in
-    let g = s.args in
-    let k = c.loop-i in
-    omega (arith, k.invariant.0.room.1, s.requires.0)
+    let room = room_for c.args.question.now c.loop-i.invariant c.loop-i-test.true c.requires.0 c.requires.1 c.if-number-lt4096.true in
+    record { fits = omega (arith, room, c.loop-i.invariant.room.0, c.place_of-at.ensures.0) }
 
 pub loop-i-preserved : goal.loop-i-preserved
 loop-i-preserved c =
-    let s = c in
-    let g = s.args in
+    let q = c.args.question.now in
     let k = c.loop-i in
-    (numbered_other g.question.now k.invariant.0 (omega arith) s.requires.0 (omega arith), omega arith)
-
-pub shape_of-terms : goal.shape_of-terms
-shape_of-terms c = c.loop-i.invariant.0.room.0 ∙ sym c.requires.2
-
-pub shape_of-numbered : goal.shape_of-numbered
-shape_of-numbered c = c.loop-i.invariant.0.room.1 ∙ sym c.requires.3
-
-pub returns : goal.returns
-returns c =
-    let s = c in
-    let g = s.args in
-    let k = c.loop-i in
-    let end : k.i ≡ length g.question.now = omega arith in
-    rw (← end) k.invariant.0
+    elim c.if-number-lt4096.branch [
+      | then-number-lt4096 w ↦
+          rw (w.terms-is, w.numbered-is, w.size-is, w.max-size.ensures)
+          (numbered_word q k.invariant c.loop-i-test.true c.requires.0 w.place_of-at.result w.place_of-at.new.terms w.if-number-lt4096.true w.place_of-at.ensures.0 w.place_of-at.ensures.1)
+      | else-number-lt4096 w ↦
+          rw (w.terms-is, w.numbered-is, w.size-is) (numbered_other q k.invariant c.loop-i-test.true c.requires.0 w.if-number-lt4096.false)
+    ]

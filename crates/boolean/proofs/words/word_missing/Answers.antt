@@ -1,35 +1,17 @@
--- `word_missing` meets its contract: it looks for a number that is a word and no term.
-use Prim.Native.Nat.{ℕ}
-use native.Mathlib.Omega.{arith}
-use mathlib.Core.Path.{refl, sym, ◌∙◌}
-use mathlib.Core.Bool.{Bool, ◌&&◌}
-use lib.Dec.{leb, ltb}
-use Rattle.model.proofs.Any.{any_next, any_found, any-end, any-keep}
+-- `word_missing` meets its contract: it asks for a number that is a word and no term.
+use Rattle.std.proofs.Common.{ℕ, sym, ◌∙◌, rules, tests, Bool, ◌&&◌, leb, ltb}
+use Rattle.std.proofs.lemmas.Iterator.{YieldsList-from_slice}
+use Rattle.std.proofs.lemmas.Iterator.Search.{any_from_yields_List}
+use Rattle.model.proofs.Any.{any-keep}
+use Rattle.boolean.proofs.Numbering.{any-list}
 use Rattle.boolean.proofs.words.word_missing.Goals as goal
 
 abbrev missing : ℕ → ℕ → Bool
 missing W n = ltb n 4096 && leb W n
 
-pub loop-i-init : goal.loop-i-init
-loop-i-init c = refl
-
-pub returns-then-is_missing : goal.returns-then-is_missing
-returns-then-is_missing c =
-    let s = c in
-    let k = c.loop-i in
-    let W = s.args.l.terms in
-    any_found (missing W) s.args.question.now k.i k.invariant (omega arith) (sym c.is_missing.ensures ∙ c.if-is_missing.true)
-    ∙ sym (any-keep (leb W) (λ n. ltb n 4096) s.args.question.now)
-
-pub loop-i-preserved : goal.loop-i-preserved
-loop-i-preserved c =
-    let s = c in
-    let k = c.loop-i in
-    any_next (missing s.args.l.terms) s.args.question.now k.i k.invariant (omega arith) (sym c.is_missing.ensures ∙ c.if-is_missing.false)
-
 pub returns : goal.returns
 returns c =
-    let s = c in
-    let k = c.loop-i in
-    any-end (missing s.args.l.terms) s.args.question.now k.i k.invariant (omega arith)
-    ∙ sym (any-keep (leb s.args.l.terms) (λ n. ltb n 4096) s.args.question.now)
+    let W = c.args.l.terms in
+    let xs = c.args.question.now in
+    any_from_yields_List (missing W) _ _ _ c.any.ensures.ran (YieldsList-from_slice xs cc) (λ x b q k. search (rules, tests))
+    ∙ any-list (missing W) xs ∙ sym (any-keep (leb W) (λ n. ltb n 4096) xs)

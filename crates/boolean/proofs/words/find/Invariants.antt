@@ -1,9 +1,0 @@
--- `find` meets its contract.
-use Prim.Native.Nat.{◌-◌, ◌≤◌}
-use Rattle.boolean.proofs.words.find.Given as goal
-
-abbrev pub invariant-loop-i : goal.invariant-loop-i
-invariant-loop-i l = l.i ≤ l.size
-
-abbrev pub decreases-loop-i : goal.decreases-loop-i
-decreases-loop-i l = l.size - l.i
