@@ -1,12 +1,11 @@
--- Terms that are chosen in a slice: they are copied one by one, and what is asked with the copy is what is asked with the slice.
-use Prim.Native.Nat.{ℕ, suc, ◌+◌, ◌*◌, ◌<◌, min}
-use native.Mathlib.Omega.{arith}
+-- Terms that are chosen in a slice: what is asked with the copy is what is asked with the slice.
+use Prim.Native.Nat.{ℕ, ◌*◌, ◌<◌, min}
 use mathlib.Core.Path.{◌≡◌, refl, sym, ap, ◌∙◌}
-use mathlib.Core.List.{List, [], ◌∷◌, ◌++◌}
+use mathlib.Core.List.{List}
 use mathlib.Core.Logic.{◌⊎◌, inl, inr}
 use mathlib.Core.Bool.{Bool, true, false, ◌||◌}
-use lib.ListN.{length, get_or, take, set}
-use lib.Seq.{take-length, take-suc, take-suc-set}
+use lib.ListN.{length, take}
+use lib.Seq.{take-length}
 use lib.Dec.{leb, ltb, eqb}
 use borrow.Author.Tests.{ltb-true, ltb-false, lt-ltb}
 use Rattle.bits.proofs.Tests.{look, or_right}
@@ -18,15 +17,8 @@ use Rattle.model.specs.Queries.{pairs_into, conjunction, conjunction_result}
 use Rattle.model.specs.TopK.{found_into}
 use Rattle.model.specs.RarestFirst.{rarest_first, order_into, rarest_first_result}
 use Rattle.model.specs.Weighted.{weighted_found, weighted_result}
-use Rattle.paths.specs.declared.Terms.{Terms}
+use Rattle.paths.specs.declared.terms.Terms.{Terms}
 use Rattle.ffi.specs.Chosen.{Chosen}
-
-pub copied : (ns cs : List ℕ) (i : ℕ) → i < length ns → i < length cs → take i ns ≡ take i cs
-    → take (i + 1) (set ns i (get_or cs i 0)) ≡ take (i + 1) cs
-copied ns cs i l m e =
-    let next : i + 1 ≡ suc i = omega arith in
-    rw next
-    (take-suc-set ns i (get_or cs i 0) l ∙ ap (λ (xs : List ℕ). xs ++ (get_or cs i 0 ∷ [])) e ∙ sym (take-suc cs i 0 m))
 
 -- what is asked of terms alone, and of whether there are none or more than eight, is the same of the copy and of the slice, if more than eight are
 -- not looked at

@@ -2,12 +2,23 @@
 use Prim.Native.Nat.{ℕ}
 use mathlib.Core.Path.{◌≡◌, ap, ◌∙◌}
 use mathlib.Core.List.{List, [], ◌∷◌}
+use Rattle.std.specs.Prelude.{Result, Ok, Err, MatchResult}
+use Rattle.refusals.specs.declared.Refusal.{Refusal}
+use Rattle.refusals.specs.Refusals.{refusal_number, outcome_by}
 use Rattle.model.specs.Outcome.{Outcome}
 use Rattle.model.specs.Format.{Sizes, WriteResult}
 use Rattle.model.specs.Opening.{ReadResult}
 use Rattle.model.specs.Queries.{PairsResult}
 use Rattle.model.specs.TopK.{SearchResult}
-use Rattle.ffi.specs.Left.{Given, Left, given, one, sizes, write_left, read_left, pairs_left, search_left}
+use Rattle.ffi.specs.Left.{Given, Left, coded, given, one, sizes, write_left, read_left, pairs_left, search_left}
+
+-- a number that is given, or the number of a refusal
+pub gave : (answer : Result ℕ Refusal) (code old new : ℕ)
+    → MatchResult answer (λ x. (code ≡ 0) × (new ≡ x)) (λ r. (code ≡ refusal_number r) × (new ≡ old))
+    → coded code (one new) ≡ given one (outcome_by (λ x. x) answer) (one old)
+unfolding given
+gave (Ok x) code old new (e, f) = λ i. coded (e i) (one (f i))
+gave (Err refusal) code old new (e, f) = λ i. coded (e i) (one (f i))
 
 pub given_for : {A : Type 0} (values : A → List ℕ) (outs : List ℕ) {o p : Outcome A} {g : Given}
     → g ≡ given values o outs → o ≡ p → g ≡ given values p outs

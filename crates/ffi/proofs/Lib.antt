@@ -1,3 +1,3 @@
 -- Laws of what passes to other languages, for the proofs of the exports.
-pub mod Chosen
 pub mod Leaving
+pub mod Chosen

@@ -1,6 +1,6 @@
 -- Terms that are chosen in a slice, as the question holds them.
 use Rattle.std.specs.Prelude.{ℕ, ◌≤◌, ◌<◌, ◌≡◌, List, length, take}
-use Rattle.paths.specs.declared.Terms.{Terms}
+use Rattle.paths.specs.declared.terms.Terms.{Terms}
 
 -- so many terms as were chosen; of more than eight only that they are more than eight
 pub record Chosen (chosen : List ℕ) (q : Terms) : Type 0 where

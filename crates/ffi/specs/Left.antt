@@ -1,12 +1,12 @@
 -- What an exported operation answers and leaves behind, for the results of model: 0 or the number of the refusal, the out-parameters, the lent slices.
-use Rattle.std.specs.Prelude.{ℕ, ◌^◌, ◌<◌, List, [], ◌∷◌}
+use Rattle.std.specs.Prelude.{ℕ, ◌^◌, ◌<◌, List, [], ◌∷◌, Result, IfOk}
 use Rattle.model.specs.Outcome.{Outcome, answered, refused}
 use Rattle.model.specs.Format.{Sizes, WriteResult}
 use Rattle.model.specs.Opening.{ReadResult}
 use Rattle.model.specs.Queries.{Bounds, PairsResult}
 use Rattle.model.specs.TopK.{Ended, done_with, spent_with, SearchResult}
-use Rattle.reader.specs.declared.Reading.{Reading}
-use Rattle.reader.specs.declared.Reading.TheVariants.{Read, Refused}
+use Rattle.refusals.specs.declared.Refusal.{Refusal}
+use Rattle.reader.specs.declared.Sizes.{Sizes as Read}
 
 -- the answer and the out-parameters
 pub record Given : Type 0 where
@@ -70,6 +70,5 @@ search_left values r outs = record { answer = given values r.outcome outs; slice
 -- ---- what the out-parameters can hold
 
 -- n, N and W that are read fit 32 bits
-abbrev pub Narrow : Reading → Type 0
-Narrow (Read n d w) = (n < 2 ^ 32) × (d < 2 ^ 32) × (w < 2 ^ 32)
-Narrow (Refused number) = Unit {0}
+abbrev pub Narrow : Result Read Refusal → Type 0
+Narrow answer = IfOk answer (λ s. (s.entries < 2 ^ 32) × (s.documents < 2 ^ 32) × (s.terms < 2 ^ 32))

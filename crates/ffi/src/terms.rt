@@ -12,11 +12,7 @@ pub fn terms_of(chosen: &[u32]) -> Terms
     if 8 < size {
         return Terms { numbers, size: 9 };
     }
-    let mut i = 0;
-    while i < size {
-        numbers[i] = chosen[i];
-        i += 1;
-    }
+    numbers[..size].copy_from_slice(chosen);
     Terms {
         numbers,
         size: size as u32,

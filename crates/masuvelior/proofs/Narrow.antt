@@ -11,9 +11,10 @@ use Rattle.model.specs.Format.{Sizes}
 use Rattle.model.specs.Opening.{opening, read_into, read_result}
 use Rattle.model.proofs.Format.Valid.{Limits}
 use Rattle.model.proofs.Format.WriteBack.{accepted}
-use Rattle.reader.specs.declared.Reading.{Reading}
-use Rattle.reader.specs.declared.Reading.TheVariants.{Read, Refused}
-use Rattle.reader.specs.Reading.{reading_of}
+use Rattle.std.specs.Prelude.{Result, Ok, Err}
+use Rattle.refusals.specs.declared.Refusal.{Refusal}
+use Rattle.reader.specs.declared.Sizes.{Sizes as Read}
+use Rattle.reader.specs.Reading.{sizes_of, reading_of}
 use Rattle.ffi.specs.Left.{Narrow}
 
 pub limits_narrow : (s : Sizes) → Limits s → (s.entries < 2 ^ 32) × (s.documents < 2 ^ 32) × (s.terms < 2 ^ 32)
@@ -36,7 +37,6 @@ module _ (bytes entries lengths : List ℕ) where
           inner z (ltb (length entries) z.entries || ltb (length lengths) z.terms) (subst Limits a.1 a.0.limits) q
       go (refused number) e q = absurd (let z : ◌≡◌ {A = ℕ} 0 1 = cc in omega arith)
 
-  pub read_narrow : (r : Reading) → reading_of r ≡ (read_result bytes entries lengths).outcome → Narrow r
-  read_narrow (Read n d w) q =
-      limits_narrow (record { entries = n; documents = d; terms = w }) (read-limits (record { entries = n; documents = d; terms = w }) q)
-  read_narrow (Refused number) q = tt
+  pub read_narrow : (r : Result Read Refusal) → reading_of r ≡ (read_result bytes entries lengths).outcome → Narrow r
+  read_narrow (Ok s) q = limits_narrow (sizes_of s) (read-limits (sizes_of s) q)
+  read_narrow (Err refusal) q = tt

@@ -2,12 +2,14 @@
 ghost use Rattle.std.specs.Prelude.{◌≡◌};
 ghost use Rattle.model.specs.Format.{library, write_result};
 ghost use Rattle.model.specs.Opening.{opening, read_result};
+ghost use Rattle.refusals.specs.Refusals.{outcome_by};
 ghost use Rattle.archive.specs.Layout.{IsArchive};
 ghost use Rattle.ffi.specs.Left.{given, sizes, write_left, read_left, coded, one, two, three, left};
 ghost use Rattle.masuvelior.specs.Length.{length_result};
 
-use archive::Opening;
 use ffi::give;
+use reader::Sizes;
+use refusals::Refusal;
 
 // The check on opening.
 #[unsafe(no_mangle)]
@@ -21,16 +23,30 @@ pub extern "C" fn masuvelior_open(
         ≡ given sizes (opening archive.now) (three n.old documents.old terms.old) }
 {
     match archive::open(archive) {
-        Opening::Accepted(l) => give::sizes(
-            l.levels.entries,
-            l.documents,
-            l.terms,
-            n,
-            documents,
-            terms,
-        ),
-        Opening::Refused(number) => number,
+        Ok(opened) => {
+            let l = opened.layout;
+            let read = Sizes {
+                entries: l.levels.entries,
+                documents: l.documents,
+                terms: l.terms,
+            };
+            give::sizes(Ok(read), n, documents, terms)
+        }
+        Err(refusal) => u32::from(refusal),
     }
+}
+
+// The length of an archive of so many entries, documents and terms.
+fn length_of(n: u32, documents: u32, terms: u32) -> Result<usize, Refusal>
+    ensures { outcome_by (λ x. x) result ≡ length_result (record { entries = n; documents = documents; terms = terms }) }
+{
+    let entries = n as usize;
+    let d = documents as usize;
+    let w = terms as usize;
+    if !archive::within_limits(entries, d, w) {
+        return Err(Refusal::WriterLimits);
+    }
+    Ok(archive::archive_length(archive::layout_of(entries, d, w)))
 }
 
 // The length of an archive.
@@ -44,14 +60,7 @@ pub extern "C" fn masuvelior_archive_length(
     ensures { coded result (one length.new)
         ≡ given one (length_result (record { entries = n; documents = documents; terms = terms })) (one length.old) }
 {
-    let entries = n as usize;
-    let d = documents as usize;
-    let w = terms as usize;
-    if !archive::within_limits(entries, d, w) {
-        return 14;
-    }
-    *length = archive::archive_length(archive::layout_of(entries, d, w));
-    0
+    give::number(length_of(n, documents, terms), length)
 }
 
 // The writer.
@@ -68,7 +77,7 @@ pub extern "C" fn masuvelior_write(
         (one length.old) }
 {
     let answer = writer::write(entries, lengths, documents, target);
-    give::written(answer, length)
+    give::number(answer, length)
 }
 
 // The reader.
@@ -86,7 +95,7 @@ pub extern "C" fn masuvelior_read(
         (three n.old documents.old terms.old) }
 {
     let answer = reader::read(archive, entries, lengths);
-    give::reading(answer, n, documents, terms)
+    give::sizes(answer, n, documents, terms)
 }
 
 #[unsafe(no_mangle)]
@@ -103,7 +112,7 @@ pub extern "C" fn masuvelior_opened_read(
         ≡ read_left (read_result archive.now entries.old lengths.old)
         (three n.old documents.old terms.old) }
 {
-    let l = archive::layout_in(archive);
-    let answer = reader::read_opened(archive, l, entries, lengths);
-    give::reading(answer, n, documents, terms)
+    let opened = archive::reopen(archive);
+    let answer = reader::read_opened(&opened, entries, lengths);
+    give::sizes(answer, n, documents, terms)
 }

@@ -31,9 +31,6 @@ pub extern "C" fn masuvelior_opened_boolean(
     ensures { left result (one listed.new) (one answers.new)
         ≡ pairs_left (boolean_result archive.now question.now answers.old) (one listed.old) }
 {
-    let l = archive::layout_in(archive);
-    give::number(
-        boolean::boolean_opened(archive, l, question, answers),
-        listed,
-    )
+    let opened = archive::reopen(archive);
+    give::number(boolean::boolean_opened(&opened, question, answers), listed)
 }

@@ -36,9 +36,9 @@ pub extern "C" fn masuvelior_opened_conjunction(
         ≡ pairs_left (conjunction_result archive.now chosen.now (length chosen.now) answers.old)
         (one listed.old) }
 {
-    let l = archive::layout_in(archive);
+    let opened = archive::reopen(archive);
     give::number(
-        conjunction::conjunction_opened(archive, l, terms_of(chosen), answers),
+        conjunction::conjunction_opened(&opened, terms_of(chosen), answers),
         listed,
     )
 }

@@ -19,8 +19,8 @@ pub extern "C" fn masuvelior_opened_access(archive: &[u8], place: u32, document:
     requires { IsArchive archive.now }
     ensures { coded result (one document.new) ≡ given one (access_result archive.now place) (one document.old) }
 {
-    let l = archive::layout_in(archive);
-    give::number(queries::access_opened(archive, l, place), document)
+    let opened = archive::reopen(archive);
+    give::number(queries::access_opened(&opened, place), document)
 }
 
 // The count of a document before a place.
@@ -41,8 +41,8 @@ pub extern "C" fn masuvelior_opened_rank(
     requires { IsArchive archive.now }
     ensures { coded result (one count.new) ≡ given one (rank_result archive.now document place) (one count.old) }
 {
-    let l = archive::layout_in(archive);
-    give::number(queries::rank_opened(archive, l, document, place), count)
+    let opened = archive::reopen(archive);
+    give::number(queries::rank_opened(&opened, document, place), count)
 }
 
 // The place of the j-th entry of a document; n where it has fewer.
@@ -63,6 +63,6 @@ pub extern "C" fn masuvelior_opened_select(
     requires { IsArchive archive.now }
     ensures { coded result (one place.new) ≡ given one (select_result archive.now document j) (one place.old) }
 {
-    let l = archive::layout_in(archive);
-    give::number(queries::select_opened(archive, l, document, j), place)
+    let opened = archive::reopen(archive);
+    give::number(queries::select_opened(&opened, document, j), place)
 }

@@ -18,8 +18,10 @@ pub extern "C" fn masuvelior_rarest_first(
         ≡ pairs_left (rarest_first_result archive.now chosen.now (length chosen.now) order.old)
         (one size.old) }
 {
-    let terms = terms_of(chosen);
-    give::number(rarest_first::rarest_first(archive, terms, order), size)
+    give::number(
+        rarest_first::rarest_first(archive, terms_of(chosen), order),
+        size,
+    )
 }
 
 #[unsafe(no_mangle)]
@@ -34,10 +36,9 @@ pub extern "C" fn masuvelior_opened_rarest_first(
         ≡ pairs_left (rarest_first_result archive.now chosen.now (length chosen.now) order.old)
         (one size.old) }
 {
-    let l = archive::layout_in(archive);
-    let terms = terms_of(chosen);
+    let opened = archive::reopen(archive);
     give::number(
-        rarest_first::rarest_first_opened(archive, l, terms, order),
+        rarest_first::rarest_first_opened(&opened, terms_of(chosen), order),
         size,
     )
 }

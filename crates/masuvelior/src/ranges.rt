@@ -33,8 +33,8 @@ pub extern "C" fn masuvelior_opened_quantile(
     ensures { coded result (one document.new)
         ≡ given one (quantile_result archive.now (of_entries a b) rank) (one document.old) }
 {
-    let l = archive::layout_in(archive);
-    give::number(queries::quantile_opened(archive, l, a, b, rank), document)
+    let opened = archive::reopen(archive);
+    give::number(queries::quantile_opened(&opened, a, b, rank), document)
 }
 
 // The document of a rank in a range of terms.
@@ -67,9 +67,9 @@ pub extern "C" fn masuvelior_opened_quantile_terms(
     ensures { coded result (one document.new)
         ≡ given one (quantile_result archive.now (of_terms first last) rank) (one document.old) }
 {
-    let l = archive::layout_in(archive);
+    let opened = archive::reopen(archive);
     give::number(
-        queries::quantile_terms_opened(archive, l, first, last, rank),
+        queries::quantile_terms_opened(&opened, first, last, rank),
         document,
     )
 }
@@ -101,8 +101,8 @@ pub extern "C" fn masuvelior_opened_list(
     ensures { left result (one listed.new) (one answers.new)
         ≡ pairs_left (list_result archive.now (of_entries a b) answers.old) (one listed.old) }
 {
-    let l = archive::layout_in(archive);
-    give::number(listing::list_opened(archive, l, a, b, answers), listed)
+    let opened = archive::reopen(archive);
+    give::number(listing::list_opened(&opened, a, b, answers), listed)
 }
 
 // The documents of a range of terms with their counts.
@@ -132,9 +132,9 @@ pub extern "C" fn masuvelior_opened_list_terms(
     ensures { left result (one listed.new) (one answers.new)
         ≡ pairs_left (list_result archive.now (of_terms first last) answers.old) (one listed.old) }
 {
-    let l = archive::layout_in(archive);
+    let opened = archive::reopen(archive);
     give::number(
-        listing::list_terms_opened(archive, l, first, last, answers),
+        listing::list_terms_opened(&opened, first, last, answers),
         listed,
     )
 }
@@ -166,12 +166,8 @@ pub extern "C" fn masuvelior_opened_range_of_terms(
     ensures { coded result (two from.new to.new)
         ≡ given ends (range_result archive.now (of_terms first last)) (two from.old to.old) }
 {
-    let l = archive::layout_in(archive);
-    give::ends(
-        archive_ranges::term_range(archive, l, first, last),
-        from,
-        to,
-    )
+    let opened = archive::reopen(archive);
+    give::ends(archive_ranges::term_range(&opened, first, last), from, to)
 }
 
 // The rate.

@@ -47,8 +47,8 @@ pub extern "C" fn masuvelior_opened_greedy_entries(
         ≡ search_left ended (greedy_result archive.now (of_entries a b) k allowance answers.old work.old)
         (three listed.old spent.old number.old) }
 {
-    let l = archive::layout_in(archive);
-    let answer = top_k::greedy_entries_opened(archive, l, a, b, k, allowance, answers, work);
+    let opened = archive::reopen(archive);
+    let answer = top_k::greedy_entries_opened(&opened, a, b, k, allowance, answers, work);
     give::top_k(answer, listed, spent, number)
 }
 
@@ -92,8 +92,8 @@ pub extern "C" fn masuvelior_opened_greedy_terms(
         ≡ search_left ended (greedy_result archive.now (of_terms first last) k allowance answers.old work.old)
         (three listed.old spent.old number.old) }
 {
-    let l = archive::layout_in(archive);
-    let answer = top_k::greedy_terms_opened(archive, l, first, last, k, allowance, answers, work);
+    let opened = archive::reopen(archive);
+    let answer = top_k::greedy_terms_opened(&opened, first, last, k, allowance, answers, work);
     give::top_k(answer, listed, spent, number)
 }
 
@@ -113,7 +113,7 @@ pub extern "C" fn masuvelior_probing_entries(
         (one listed.old) }
 {
     let answer = top_k::probing_entries(archive, a, b, k, answers, work);
-    give::probed(answer, listed)
+    give::number(answer, listed)
 }
 
 #[unsafe(no_mangle)]
@@ -131,9 +131,9 @@ pub extern "C" fn masuvelior_opened_probing_entries(
         ≡ search_left one (probing_result archive.now (of_entries a b) k answers.old work.old)
         (one listed.old) }
 {
-    let l = archive::layout_in(archive);
-    let answer = top_k::probing_entries_opened(archive, l, a, b, k, answers, work);
-    give::probed(answer, listed)
+    let opened = archive::reopen(archive);
+    let answer = top_k::probing_entries_opened(&opened, a, b, k, answers, work);
+    give::number(answer, listed)
 }
 
 // Probing top-k of a range of terms.
@@ -152,7 +152,7 @@ pub extern "C" fn masuvelior_probing_terms(
         (one listed.old) }
 {
     let answer = top_k::probing_terms(archive, first, last, k, answers, work);
-    give::probed(answer, listed)
+    give::number(answer, listed)
 }
 
 #[unsafe(no_mangle)]
@@ -170,7 +170,7 @@ pub extern "C" fn masuvelior_opened_probing_terms(
         ≡ search_left one (probing_result archive.now (of_terms first last) k answers.old work.old)
         (one listed.old) }
 {
-    let l = archive::layout_in(archive);
-    let answer = top_k::probing_terms_opened(archive, l, first, last, k, answers, work);
-    give::probed(answer, listed)
+    let opened = archive::reopen(archive);
+    let answer = top_k::probing_terms_opened(&opened, first, last, k, answers, work);
+    give::number(answer, listed)
 }

@@ -29,6 +29,6 @@ pub extern "C" fn masuvelior_opened_rank_set(
     requires { IsArchive archive.now }
     ensures { coded result (one count.new) ≡ given one (rank_set_result archive.now set.now place) (one count.old) }
 {
-    let l = archive::layout_in(archive);
-    give::number(rank_set::rank_set_opened(archive, l, set, place), count)
+    let opened = archive::reopen(archive);
+    give::number(rank_set::rank_set_opened(&opened, set, place), count)
 }

@@ -23,8 +23,7 @@ pub extern "C" fn masuvelior_weighted(
         ≡ search_left ended (weighted_result archive.now chosen.now (length chosen.now) k allowance answers.old work.old)
         (three listed.old spent.old number.old) }
 {
-    let terms = terms_of(chosen);
-    let answer = weighted::weighted(archive, terms, k, allowance, answers, work);
+    let answer = weighted::weighted(archive, terms_of(chosen), k, allowance, answers, work);
     give::top_k(answer, listed, spent, number)
 }
 
@@ -45,8 +44,7 @@ pub extern "C" fn masuvelior_opened_weighted(
         ≡ search_left ended (weighted_result archive.now chosen.now (length chosen.now) k allowance answers.old work.old)
         (three listed.old spent.old number.old) }
 {
-    let l = archive::layout_in(archive);
-    let terms = terms_of(chosen);
-    let answer = weighted::weighted_opened(archive, l, terms, k, allowance, answers, work);
+    let opened = archive::reopen(archive);
+    let answer = weighted::weighted_opened(&opened, terms_of(chosen), k, allowance, answers, work);
     give::top_k(answer, listed, spent, number)
 }

@@ -7,6 +7,7 @@ use std::io::Read;
 pub fn read_full<R: Read>(reader: &mut R, buffer: &mut [u8]) -> usize
     ensures { IsPrefixLen result buffer.new }
 {
+    // Each turn goes on by as many bytes as a read gave, so this stays a while.
     let mut done = 0;
     while done < buffer.len() {
         let n = reader.read(&mut buffer[done..]).unwrap_or(0);

@@ -7,7 +7,8 @@ ghost use Rattle.report.specs.Types.{Types, text_in, Listed};
 
 use crate::text::{put_last, put_line};
 use bit_rows::number;
-use moves::TopK;
+use moves::Ended;
+use refusals::Refusal;
 use top_k::greedy_terms;
 
 // A line for each of the first n documents, from the three numbers that each has in the answer slice.
@@ -15,34 +16,32 @@ fn put_lines(output: &mut [u8], answers: &[u32], n: usize) -> usize
     requires { (n ≤ 4096) × (12288 ≤ length answers.now) }
     ensures { Types (lines_of (take (3 * n) answers.now)) 0 output.old result output.new }
 {
-    let mut at: usize = 0;
-    let mut i: usize = 0;
-    while i < n {
+    let mut at = 0;
+    for i in 0..n {
         let first = 3 * i;
         let document = answers[first];
         let count = answers[first + 1];
         let place = answers[first + 2];
         at = put_line(output, at, document, count, place);
-        i += 1;
     }
     at
 }
 
-fn put_answer(output: &mut [u8], answers: &[u32], r: TopK) -> usize
+fn put_answer(output: &mut [u8], answers: &[u32], r: Result<Ended, Refusal>) -> usize
     requires listed { Listed (top_k_of r) }
     requires in_bounds { 12288 ≤ length answers.now }
     ensures { Types (text_in (top_k_of r) answers.now) 0 output.old result output.new }
 {
     match r {
-        TopK::Done { listed, openings } => {
+        Ok(Ended::Done { listed, openings }) => {
             let at = put_lines(output, answers, listed as usize);
             put_last(output, at, b"done ", openings)
         }
-        TopK::Spent { listed, allowance } => {
+        Ok(Ended::Spent { listed, allowance }) => {
             let at = put_lines(output, answers, listed as usize);
             put_last(output, at, b"spent ", allowance)
         }
-        TopK::Refused(number) => put_last(output, 0, b"refused ", number),
+        Err(refusal) => put_last(output, 0, b"refused ", u32::from(refusal)),
     }
 }
 
@@ -78,7 +77,7 @@ pub fn shortlist(input: &[u8], output: &mut [u8]) -> usize
         return put_last(output, 0, b"refused ", 0);
     }
     if input.len() < 56 {
-        return put_last(output, 0, b"refused ", 1);
+        return put_last(output, 0, b"refused ", u32::from(Refusal::TooShort));
     }
     put_report(input, output)
 }

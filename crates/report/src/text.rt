@@ -1,4 +1,5 @@
 // Text into a slice from a place on, as far as the slice has room; each function answers the next place.
+// A struct of the slice and the place is no plainer: each of its methods would also have to say that it still holds the same slice.
 ghost use Rattle.std.specs.Prelude.{[], ◌∷◌, ◌≤◌, length};
 ghost use Rattle.report.specs.Report.{decimal, line_of, last_line};
 ghost use Rattle.report.specs.Types.{Types};
@@ -18,14 +19,11 @@ fn put_text(output: &mut [u8], at: usize, text: &[u8]) -> usize
     requires { at ≤ length output.old }
     ensures { Types text.now at output.old result output.new }
 {
-    let mut p = at;
-    let mut i = 0;
-    while i < text.len() {
-        let byte = text[i];
-        p = put_byte(output, p, byte);
-        i += 1;
+    let mut place = at;
+    for byte in text {
+        place = put_byte(output, place, *byte);
     }
-    p
+    place
 }
 
 fn put_decimal(output: &mut [u8], at: usize, x: u32) -> usize
@@ -33,7 +31,7 @@ fn put_decimal(output: &mut [u8], at: usize, x: u32) -> usize
     ensures { Types (decimal x) at output.old result output.new }
 {
     let mut digits = [0u8; 20];
-    let n = io::decimal(x as u64, &mut digits);
+    let n = io::decimal(u64::from(x), &mut digits);
     put_text(output, at, &digits[..n])
 }
 

@@ -1,18 +1,19 @@
-use mathlib.Core.Path.{sym, ap}
-use mathlib.Core.List.{[], ◌∷◌}
-use Rattle.archive_ranges.specs.declared.Range.{Range}
+use Rattle.std.proofs.Common.{ℕ, sym, ap, ◌∙◌, [], ◌∷◌, Result}
+use Rattle.archive_ranges.specs.declared.Entries.{Entries}
 use Rattle.archive_ranges.specs.Ranges.{bounds_in}
-use Rattle.ffi.specs.Left.{given, ends}
+use Rattle.refusals.specs.declared.Refusal.{Refusal}
+use Rattle.ffi.specs.Left.{given, ends, coded, two}
 use Rattle.ffi.proofs.give.ends.Goals as goal
 
-pub returns-in-Entries : goal.returns-in-Entries
+pub returns-in-Ok : goal.returns-in-Ok
 unfolding given
-returns-in-Entries c =
+returns-in-Ok c =
     let g = c.args in
-    sym (ap (λ (x : Range). given ends (bounds_in x) (g.first.now ∷ g.second.now ∷ [])) c.in-Entries.is)
+    sym (ap (λ (x : Result Entries Refusal). given ends (bounds_in x) (g.first.now ∷ g.second.now ∷ [])) c.in-Ok.is)
 
-pub returns-in-Refused : goal.returns-in-Refused
+pub returns-in-Err : goal.returns-in-Err
 unfolding given
-returns-in-Refused c =
+returns-in-Err c =
     let g = c.args in
-    sym (ap (λ (x : Range). given ends (bounds_in x) (g.first.now ∷ g.second.now ∷ [])) c.in-Refused.is)
+    ap (λ (n : ℕ). coded n (two g.first.now g.second.now)) c.from.ensures
+    ∙ sym (ap (λ (x : Result Entries Refusal). given ends (bounds_in x) (g.first.now ∷ g.second.now ∷ [])) c.in-Err.is)

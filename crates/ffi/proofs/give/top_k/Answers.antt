@@ -1,24 +1,25 @@
-use mathlib.Core.Path.{sym, ap}
-use mathlib.Core.List.{[], ◌∷◌}
-use Rattle.moves.specs.declared.TopK.{TopK}
+use Rattle.std.proofs.Common.{ℕ, sym, ap, ◌∙◌, [], ◌∷◌, Result, Ok}
+use Rattle.moves.specs.declared.Ended.{Ended}
 use Rattle.moves.specs.Results.{top_k_of}
-use Rattle.ffi.specs.Left.{given, ended}
+use Rattle.refusals.specs.declared.Refusal.{Refusal}
+use Rattle.ffi.specs.Left.{given, ended, coded, three}
 use Rattle.ffi.proofs.give.top_k.Goals as goal
 
-pub returns-in-Done : goal.returns-in-Done
+pub returns-in-Ok-Done : goal.returns-in-Ok-Done
 unfolding given
-returns-in-Done c =
+returns-in-Ok-Done c =
     let g = c.args in
-    sym (ap (λ (x : TopK). given ended (top_k_of x) (g.first.now ∷ g.second.now ∷ g.third.now ∷ [])) c.in-Done.is)
+    sym (ap (λ (x : Result Ended Refusal). given ended (top_k_of x) (g.first.now ∷ g.second.now ∷ g.third.now ∷ [])) (c.in-Ok-Done.is ∙ ap Ok (rw c.in-Ok-Done.is at c.in-Ok-Done.field-0-is)))
 
-pub returns-in-Spent : goal.returns-in-Spent
+pub returns-in-Ok-Spent : goal.returns-in-Ok-Spent
 unfolding given
-returns-in-Spent c =
+returns-in-Ok-Spent c =
     let g = c.args in
-    sym (ap (λ (x : TopK). given ended (top_k_of x) (g.first.now ∷ g.second.now ∷ g.third.now ∷ [])) c.in-Spent.is)
+    sym (ap (λ (x : Result Ended Refusal). given ended (top_k_of x) (g.first.now ∷ g.second.now ∷ g.third.now ∷ [])) (c.in-Ok-Spent.is ∙ ap Ok (rw c.in-Ok-Spent.is at c.in-Ok-Spent.field-0-is)))
 
-pub returns-in-Refused : goal.returns-in-Refused
+pub returns-in-Err : goal.returns-in-Err
 unfolding given
-returns-in-Refused c =
+returns-in-Err c =
     let g = c.args in
-    sym (ap (λ (x : TopK). given ended (top_k_of x) (g.first.now ∷ g.second.now ∷ g.third.now ∷ [])) c.in-Refused.is)
+    ap (λ (n : ℕ). coded n (three g.first.now g.second.now g.third.now)) c.from.ensures
+    ∙ sym (ap (λ (x : Result Ended Refusal). given ended (top_k_of x) (g.first.now ∷ g.second.now ∷ g.third.now ∷ [])) c.in-Err.is)

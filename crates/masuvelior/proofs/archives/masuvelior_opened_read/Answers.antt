@@ -5,13 +5,13 @@ use Rattle.ffi.proofs.Leaving.{read_left_lem}
 use Rattle.masuvelior.proofs.Narrow.{read_narrow}
 use Rattle.masuvelior.proofs.archives.masuvelior_opened_read.Goals as goal
 
-pub reading-requires : goal.reading-requires
-reading-requires c =
+pub sizes-requires : goal.sizes-requires
+sizes-requires c =
     let g = c.args in
     let x = c.read_opened-answer in
-    read_narrow g.archive.now g.entries.now g.lengths.now x.result (ap (λ (r : ReadResult). r.outcome) x.ensures)
+    read_narrow g.archive.now g.entries.now g.lengths.now x.result (ap (λ (r : ReadResult). r.outcome) (rw c.reopen-opened.ensures at x.ensures))
 
 pub returns : goal.returns
 returns c =
     let g = c.args in
-    read_left_lem (g.n.now ∷ g.documents.now ∷ g.terms.now ∷ []) c.reading.ensures c.read_opened-answer.ensures
+    read_left_lem (g.n.now ∷ g.documents.now ∷ g.terms.now ∷ []) c.sizes.ensures (rw c.reopen-opened.ensures at c.read_opened-answer.ensures)

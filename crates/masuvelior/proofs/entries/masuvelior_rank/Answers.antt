@@ -1,9 +1,9 @@
 use mathlib.Core.List.{[], ◌∷◌}
 use Rattle.ffi.specs.Left.{one}
-use Rattle.ffi.proofs.Leaving.{given_for}
+use Rattle.ffi.proofs.Leaving.{gave, given_for}
 use Rattle.masuvelior.proofs.entries.masuvelior_rank.Goals as goal
 
 pub returns : goal.returns
 returns c =
     let g = c.args in
-    given_for one (g.count.now ∷ []) c.number.ensures c.rank.ensures
+    given_for one (g.count.now ∷ []) (gave c.rank.result c.number.result g.count.now c.number.new.out c.number.ensures) c.rank.ensures

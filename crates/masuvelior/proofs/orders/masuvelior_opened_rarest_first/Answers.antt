@@ -1,11 +1,10 @@
 use mathlib.Core.Path.{◌∙◌}
 use mathlib.Core.List.{[], ◌∷◌}
-use Rattle.ffi.proofs.Leaving.{pairs-left}
+use Rattle.ffi.proofs.Leaving.{gave, pairs-left}
 use Rattle.ffi.proofs.Chosen.{rarest_first-chosen}
 use Rattle.masuvelior.proofs.orders.masuvelior_opened_rarest_first.Goals as goal
 
 pub returns : goal.returns
 returns c =
     let g = c.args in
-    let q = c.terms_of-terms in
-    pairs-left (g.size.now ∷ []) c.number.ensures (c.rarest_first_opened.ensures ∙ rarest_first-chosen g.archive.now g.order.now g.chosen.now q.result q.ensures)
+    pairs-left (g.size.now ∷ []) (gave c.rarest_first_opened.result c.number.result g.size.now c.number.new.out c.number.ensures) ((rw c.reopen-opened.ensures at c.rarest_first_opened.ensures) ∙ rarest_first-chosen g.archive.now g.order.now g.chosen.now c.terms_of.result c.terms_of.ensures)

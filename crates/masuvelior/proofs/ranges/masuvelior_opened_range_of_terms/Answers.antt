@@ -9,5 +9,6 @@ use Rattle.masuvelior.proofs.ranges.masuvelior_opened_range_of_terms.Goals as go
 pub returns : goal.returns
 returns c =
     let g = c.args in
-    let l = c.layout_in-l in
-    given_for ends (g.from.now ∷ g.to.now ∷ []) c.ends.ensures (c.term_range.ensures.0 ∙ range_is g.archive.now l.result l.ensures (of_terms g.first g.last))
+    let o = c.reopen-opened.result in
+    given_for ends (g.from.now ∷ g.to.now ∷ []) c.ends.ensures
+    (rw c.reopen-opened.ensures at (c.term_range.ensures.0 ∙ range_is o.bytes.now o.layout o.opened (of_terms g.first g.last)))

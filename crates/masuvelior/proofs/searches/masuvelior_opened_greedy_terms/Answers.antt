@@ -6,4 +6,4 @@ use Rattle.masuvelior.proofs.searches.masuvelior_opened_greedy_terms.Goals as go
 pub returns : goal.returns
 returns c =
     let g = c.args in
-    search_left_lem ended (g.listed.now ∷ g.spent.now ∷ g.number.now ∷ []) c.top_k.ensures c.greedy_terms_opened-answer.ensures
+    search_left_lem ended (g.listed.now ∷ g.spent.now ∷ g.number.now ∷ []) c.top_k.ensures (rw c.reopen-opened.ensures at c.greedy_terms_opened-answer.ensures)

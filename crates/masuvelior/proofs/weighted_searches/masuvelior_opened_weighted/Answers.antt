@@ -8,7 +8,5 @@ use Rattle.masuvelior.proofs.weighted_searches.masuvelior_opened_weighted.Goals 
 pub returns : goal.returns
 returns c =
     let g = c.args in
-    let q = c.terms_of-terms in
     search_left_lem ended (g.listed.now ∷ g.spent.now ∷ g.number.now ∷ []) c.top_k.ensures
-    (c.weighted_opened-answer.ensures
-    ∙ weighted_chosen g.archive.now g.k g.allowance g.answers.now g.work.now g.chosen.now q.result q.ensures)
+    ((rw c.reopen-opened.ensures at c.weighted_opened-answer.ensures) ∙ weighted_chosen g.archive.now g.k g.allowance g.answers.now g.work.now g.chosen.now c.terms_of.result c.terms_of.ensures)

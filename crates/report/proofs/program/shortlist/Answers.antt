@@ -13,7 +13,7 @@ pub returns-then-input-lt56 : goal.returns-then-input-lt56
 returns-then-input-lt56 c =
     let s = c in
     let n = length s.args.input.now in
-    rw (le-ltb 65536 n c.if-input-gt65536.false, lt-ltb n 56 c.if-input-lt56.true) (types_shown c.put_last-then-input-lt56.ensures)
+    rw (le-ltb 65536 n c.if-input-gt65536.false, lt-ltb n 56 c.if-input-lt56.true) (types_shown (rw c.from.ensures at c.put_last-then-input-lt56.ensures))
 
 pub returns : goal.returns
 returns c =

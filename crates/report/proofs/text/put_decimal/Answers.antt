@@ -1,7 +1,8 @@
 -- `put_decimal`: the digits that were made are the decimal ones.
-use mathlib.Core.Path.{◌∙◌, subst}
+use mathlib.Core.Path.{◌∙◌, ap, subst}
 use Prim.Native.Nat.{ℕ}
 use mathlib.Core.List.{List}
+use Rattle.report.specs.Report.{decimal}
 use Rattle.report.specs.Types.{Types}
 use Rattle.report.proofs.Decimals.{fewest_decimal}
 use Rattle.report.proofs.text.put_decimal.Goals as goal
@@ -12,4 +13,4 @@ returns c =
     let d = c.decimal-n in
     let t = c.put_text in
     subst (λ (text : List ℕ). Types text s.at s.output.now t.result t.new.output)
-    (d.ensures.digits ∙ fewest_decimal s.x d.result d.ensures.len) t.ensures
+    (d.ensures.digits ∙ fewest_decimal c.from.result d.result d.ensures.len ∙ ap decimal c.from.ensures) t.ensures
