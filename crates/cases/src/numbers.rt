@@ -1,113 +1,71 @@
 // The numbers of a line, in their order; words between them are for the reader, and a bracket ends them. 3*7 is three sevens.
-use slices::{at, minus, plus, put};
+use paths::Terms;
 
-// The number of an operation, and the first numbers of the line: 0 where there are fewer.
+// One that is not there is 0.
 #[derive(Clone, Copy)]
-pub struct Question {
-    pub kind: u32,
-    pub a: u32,
-    pub b: u32,
-    pub c: u32,
-    pub d: u32,
-    pub e: u32,
-    pub f: u32,
-    pub g: u32,
-    pub h: u32,
-    pub i: u32,
-    pub j: u32,
-    pub k: u32,
-    pub l: u32,
-    pub m: u32,
+pub struct Numbers<'a> {
+    pub listed: &'a [u32],
 }
 
-pub fn question_of(kind: u32, numbers: &[u32]) -> Question {
-    Question {
-        kind,
-        a: at(numbers, 0),
-        b: at(numbers, 1),
-        c: at(numbers, 2),
-        d: at(numbers, 3),
-        e: at(numbers, 4),
-        f: at(numbers, 5),
-        g: at(numbers, 6),
-        h: at(numbers, 7),
-        i: at(numbers, 8),
-        j: at(numbers, 9),
-        k: at(numbers, 10),
-        l: at(numbers, 11),
-        m: at(numbers, 12),
+impl<'a> Numbers<'a> {
+    pub fn at(self, place: usize) -> u32 {
+        self.listed.get(place).copied().unwrap_or(0)
     }
-}
 
-// 0 past the end.
-pub fn byte_at(text: &[u8], i: usize) -> u8 {
-    if i < text.len() {
-        return text[i];
+    // So many from a place on, where there are so many.
+    pub fn slice(self, from: usize, size: u32) -> Option<&'a [u32]> {
+        self.listed.get(from..)?.get(..size as usize)
     }
-    0
-}
 
-fn is_digit(b: u8) -> bool {
-    b ^ 48 < 10
-}
-
-// A number with a digit more. It wraps at 2^32.
-fn with_digit(x: u32, b: u8) -> u32 {
-    ((10 * x as u64 + (b % 16) as u64) % 4294967296) as u32
-}
-
-// The number whose digits begin at a place.
-fn value_at(line: &[u8], place: usize) -> u32 {
-    let mut x = 0;
-    let mut i = place;
-    while i < line.len() {
-        if !is_digit(line[i]) {
-            return x;
+    // How many terms are asked, at a place, then eight.
+    pub fn terms(self, place: usize) -> Terms {
+        Terms {
+            numbers: std::array::from_fn(|i| self.at(place.saturating_add(i).saturating_add(1))),
+            size: self.at(place),
         }
-        x = with_digit(x, line[i]);
-        i += 1;
     }
-    x
 }
 
-// Number k is how often another stands from there on. The place after them.
-fn repeat(numbers: &mut [u32], k: u32, x: u32) -> u32 {
-    let times = at(numbers, k);
-    let mut i = 0;
-    while i < times {
-        put(numbers, plus(k, i), x);
-        i += 1;
-    }
-    plus(k, times)
+// The number whose digits a text begins with. It wraps at 2^32.
+fn value_of(text: &[u8]) -> u32 {
+    text.iter().take_while(|b| b.is_ascii_digit()).fold(
+        0u32,
+        |x, b| x.wrapping_mul(10).wrapping_add(u32::from(b % 16)),
+    )
 }
 
-// A place of the line, the byte before it, and how many numbers there are: one more, where a number begins.
-fn read_at(line: &[u8], i: usize, before: u8, k: u32, numbers: &mut [u32]) -> u32 {
-    if is_digit(before) {
-        return k;
+fn put(numbers: &mut [u32], place: u32, x: u32) {
+    if let Some(number) = numbers.get_mut(place as usize) {
+        *number = x;
     }
-    if !is_digit(byte_at(line, i)) {
-        return k;
+}
+
+// What a star repeats may reach past the buffer, and the count wraps at 2^32, so the count is no length of a Vec: what a line means may not change.
+// One number more, behind so many; after a star the last one says how often it stands from there on. How many there are then.
+fn put_next(numbers: &mut [u32], count: u32, x: u32, before: u8) -> u32 {
+    if before != b'*' {
+        put(numbers, count, x);
+        return count.wrapping_add(1);
     }
-    let x = value_at(line, i);
-    if before == b'*' {
-        return repeat(numbers, minus(k, 1), x);
+    let place = count.wrapping_sub(1);
+    let times = Numbers { listed: numbers }.at(place as usize);
+    for i in 0..times {
+        put(numbers, place.wrapping_add(i), x);
     }
-    put(numbers, k, x);
-    plus(k, 1)
+    place.wrapping_add(times)
 }
 
 // Into zeros.
 pub fn read_numbers(line: &[u8], numbers: &mut [u32]) {
+    let mut count = 0;
     let mut before = 0u8;
-    let mut k = 0;
-    let mut i: usize = 0;
-    while i < line.len() {
-        if before == b'(' {
+    for (i, byte) in line.iter().enumerate() {
+        if *byte == b'(' {
             return;
         }
-        k = read_at(line, i, before, k, numbers);
-        before = line[i];
-        i += 1;
+        if byte.is_ascii_digit() && !before.is_ascii_digit() {
+            count = put_next(numbers, count, value_of(&line[i..]), before);
+        }
+        before = *byte;
     }
 }

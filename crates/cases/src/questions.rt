@@ -1,133 +1,104 @@
-// Questions of an archive, each by the number of its operation (names.rt).
-use crate::numbers::Question;
+// Questions of a whole archive.
+use crate::answered::{Outcome, answered, ended, ranged, was_read};
+use crate::numbers::Numbers;
+use crate::operations::{Lending, Query};
 use crate::show;
-use answers::Answer;
-use moves::TopK;
-use paths::Terms;
 use std::io::Stdout;
-use top_k::Probed;
 
-// Of so many bytes from a place on.
-pub fn ask(q: Question, start: u32, size: u32, bytes: &[u8], out: Stdout) {
-    let from = start as usize;
-    let to = from + size as usize;
-    if to <= bytes.len() {
-        ask_part(q, &bytes[from..to], out);
-    }
-}
-
-fn ask_part(q: Question, archive: &[u8], out: Stdout) {
-    let kind = q.kind;
-    match kind {
-        3 => show::opening(archive::open(archive), out),
-        4 => report(archive, out),
-        5..=10 => show::answer(number(q, archive), out),
-        11 => show::range(queries::range_of_terms(archive, q.a, q.b), out),
-        20 => show::bytes(archive, out),
-        24 => rarest_first(q, archive, out),
-        _ => ask_lent(q, archive, out),
-    }
-}
-
-// How many terms are asked, then eight. What is lent for the order holds nines, and is printed after the answer.
-fn rarest_first(q: Question, archive: &[u8], out: Stdout) {
-    let asked = Terms {
-        numbers: [q.b, q.c, q.d, q.e, q.f, q.g, q.h, q.i],
-        size: q.a,
+pub fn ask(query: Query, n: Numbers, archive: &[u8], out: Stdout) {
+    let found = match query {
+        Query::Access => answered(queries::access(archive, n.at(0))),
+        Query::Rank => answered(queries::rank(archive, n.at(0), n.at(1))),
+        Query::Quantile => answered(queries::quantile(archive, n.at(0), n.at(1), n.at(2))),
+        Query::QuantileTerms => answered(queries::quantile_terms(
+            archive,
+            n.at(0),
+            n.at(1),
+            n.at(2),
+        )),
+        Query::PerMille => answered(queries::per_mille(n.at(0), n.at(1))),
+        Query::Select => answered(queries::select(archive, n.at(0), n.at(1))),
+        Query::RangeOfTerms => ranged(queries::range_of_terms(archive, n.at(0), n.at(1))),
+        Query::Boolean => return ask_boolean(n, archive, out),
+        Query::RankSet => return ask_rank_set(n, archive, out),
+        Query::RarestFirst => return ask_rarest_first(n, archive, out),
+        Query::Lent(lending) => return ask_lent(lending, n, archive, out),
     };
-    let mut order = [9u32; 8];
-    show::answer(rarest_first::rarest_first(archive, asked, &mut order), out);
-    show::eight(order, out);
+    show::outcome(found, out);
 }
 
-fn report(input: &[u8], out: Stdout) {
-    let mut output = [0u8; 65536];
-    let n = report::whole(input, &mut output);
-    show::show(&output[..n], out);
-}
-
-fn number(q: Question, archive: &[u8]) -> Answer {
-    let kind = q.kind;
-    match kind {
-        5 => queries::access(archive, q.a),
-        6 => queries::rank(archive, q.a, q.b),
-        7 => queries::quantile(archive, q.a, q.b, q.c),
-        8 => queries::quantile_terms(archive, q.a, q.b, q.c),
-        9 => queries::per_mille(q.a, q.b),
-        _ => queries::select(archive, q.a, q.b),
+// boolean ANSWERS 0 SIZE NUMBERS: a question with and, or, not, of so many numbers. It has more numbers than other questions, and its answer is one number
+// for each document: at most 70,000 numbers are asked, and 4,100 lent, so that 4,096 documents have room. The lent ones are nines, and are printed after
+// the answer.
+fn ask_boolean(n: Numbers, archive: &[u8], out: Stdout) {
+    let mut question = [0u16; 70000];
+    let mut answers = [9u32; 4100];
+    let asked = question.get_mut(..n.at(2) as usize);
+    let lent = answers.get_mut(..n.at(0) as usize);
+    if let (Some(question), Some(answers)) = (asked, lent) {
+        put_question(n, question);
+        show::outcome(answered(boolean::boolean(archive, question, answers)), out);
+        show::lent(answers, out);
     }
+}
+
+// The numbers of the line from the fourth on, as 16 bits.
+fn put_question(n: Numbers, question: &mut [u16]) {
+    for (i, number) in question.iter_mut().enumerate() {
+        *number = (n.at(i.saturating_add(3)) % 65536) as u16;
+    }
+}
+
+// rank_set PLACE SIZE NUMBERS: the count of a set of so many documents before a place.
+fn ask_rank_set(n: Numbers, archive: &[u8], out: Stdout) {
+    if let Some(set) = n.slice(2, n.at(1)) {
+        show::outcome(answered(rank_set::rank_set(archive, set, n.at(0))), out);
+    }
+}
+
+// What is lent for the order holds nines, and is printed after the answer.
+fn ask_rarest_first(n: Numbers, archive: &[u8], out: Stdout) {
+    let mut order = [9u32; 8];
+    show::outcome(
+        answered(rarest_first::rarest_first(archive, n.terms(0), &mut order)),
+        out,
+    );
+    show::lent(&order, out);
 }
 
 // The first two numbers are how many numbers are lent, for the answer and for the work, or for entries and lengths: at most 128, and for the work
 // so many that 4,096 documents can be searched. The lent slices hold nines, and are printed after the answer.
-fn ask_lent(q: Question, archive: &[u8], out: Stdout) {
+fn ask_lent(lending: Lending, n: Numbers, archive: &[u8], out: Stdout) {
     let mut answers = [9u32; 128];
     let mut work = [9u32; 16400];
-    let from = 0;
-    let m = q.a as usize;
-    let w = q.b as usize;
-    if 128 < m {
-        return;
-    }
-    if 16400 < w {
-        return;
-    }
-    fill(q, archive, &mut answers[from..m], &mut work[from..w], out);
-}
-
-fn fill(q: Question, archive: &[u8], answers: &mut [u32], work: &mut [u32], out: Stdout) {
-    found(q, archive, answers, work, out);
-    show::lent(answers, out);
-    show::lent(work, out);
-}
-
-fn found(q: Question, archive: &[u8], answers: &mut [u32], work: &mut [u32], out: Stdout) {
-    let kind = q.kind;
-    match kind {
-        12 => show::reading(reader::read(archive, answers, work), out),
-        13..=15 => show::answer(list(q, archive, answers), out),
-        16 | 17 => show::top_k(greedy(q, archive, answers, work), out),
-        21 => show::top_k(weighted(q, archive, answers, work), out),
-        _ => show::probed(probing(q, archive, answers, work), out),
+    let answers = answers.get_mut(..n.at(0) as usize);
+    let work = work.get_mut(..n.at(1) as usize);
+    if let (Some(answers), Some(work)) = (answers, work) {
+        show::outcome(found(lending, n, archive, answers, work), out);
+        show::lent(answers, out);
+        show::lent(work, out);
     }
 }
 
-fn list(q: Question, archive: &[u8], answers: &mut [u32]) -> Answer {
-    let kind = q.kind;
-    match kind {
-        13 => listing::list(archive, q.c, q.d, answers),
-        14 => listing::list_terms(archive, q.c, q.d, answers),
-        _ => conjunction::conjunction(archive, terms(q), answers),
+fn found(
+    lending: Lending,
+    n: Numbers,
+    archive: &[u8],
+    answers: &mut [u32],
+    work: &mut [u32],
+) -> Outcome {
+    let (a, b, c, d) = (n.at(2), n.at(3), n.at(4), n.at(5));
+    match lending {
+        Lending::Read => was_read(reader::read(archive, answers, work)),
+        Lending::List => answered(listing::list(archive, a, b, answers)),
+        Lending::ListTerms => answered(listing::list_terms(archive, a, b, answers)),
+        Lending::Conjunction => answered(conjunction::conjunction(archive, n.terms(2), answers)),
+        Lending::GreedyEntries => ended(top_k::greedy_entries(archive, a, b, c, d, answers, work)),
+        Lending::GreedyTerms => ended(top_k::greedy_terms(archive, a, b, c, d, answers, work)),
+        Lending::ProbingEntries => answered(top_k::probing_entries(
+            archive, a, b, c, answers, work,
+        )),
+        Lending::ProbingTerms => answered(top_k::probing_terms(archive, a, b, c, answers, work)),
+        Lending::Weighted => ended(weighted::weighted(archive, n.terms(4), a, b, answers, work)),
     }
-}
-
-// How many terms are asked, then eight.
-fn terms(q: Question) -> Terms {
-    Terms {
-        numbers: [q.d, q.e, q.f, q.g, q.h, q.i, q.j, q.k],
-        size: q.c,
-    }
-}
-
-fn greedy(q: Question, archive: &[u8], answers: &mut [u32], work: &mut [u32]) -> TopK {
-    if q.kind == 16 {
-        return top_k::greedy_entries(archive, q.c, q.d, q.e, q.f, answers, work);
-    }
-    top_k::greedy_terms(archive, q.c, q.d, q.e, q.f, answers, work)
-}
-
-// k and the allowance, how many terms are asked, then eight.
-fn weighted(q: Question, archive: &[u8], answers: &mut [u32], work: &mut [u32]) -> TopK {
-    let asked = Terms {
-        numbers: [q.f, q.g, q.h, q.i, q.j, q.k, q.l, q.m],
-        size: q.e,
-    };
-    weighted::weighted(archive, asked, q.c, q.d, answers, work)
-}
-
-fn probing(q: Question, archive: &[u8], answers: &mut [u32], work: &mut [u32]) -> Probed {
-    if q.kind == 18 {
-        return top_k::probing_entries(archive, q.c, q.d, q.e, answers, work);
-    }
-    top_k::probing_terms(archive, q.c, q.d, q.e, answers, work)
 }

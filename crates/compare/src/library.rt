@@ -1,216 +1,117 @@
 // Random libraries: their entries and term lengths are drawn, written, read back and asked.
 use crate::archives;
-use crate::shapes::{Shape, drawn};
+use crate::shapes::Shape;
 use plain::archive::length_of;
-use plain::outcome::Sizes;
-use slices::{at, count_at, plus, put};
+use plain::outcome::Kind;
 use trials::differences::Tally;
+use trials::library::{Library, number_at};
 use trials::random::{below, draw, once_in};
 use trials::{booleans, lists, numbers, orders, places, rates, searches, sets};
 
-fn fill_entries(how: u32, n: u32, documents: u32, seed: u32, entries: &mut [u32]) {
-    let mut i = 0;
-    while i < n {
-        put(entries, i, drawn(how, documents, i, seed));
-        i += 1;
-    }
-}
-
-// Each of n entries falls under a term.
-fn fill_lengths(how: u32, n: u32, terms: u32, seed: u32, lengths: &mut [u32]) {
-    let mut i = 0;
-    while i < n {
-        count_at(lengths, drawn(how, terms, i, seed));
-        i += 1;
-    }
-}
-
 // A library of a shape.
-pub fn library(s: Shape, seed: u32, made: &mut Tally) {
+pub fn ask_library(s: Shape, seed: u32, made: &mut Tally) {
     let mut entries = [0u32; 65536];
     let mut lengths = [0u32; 4096];
-    let l = Sizes {
-        n: s.n,
-        documents: s.documents,
-        terms: s.terms,
+    for (i, entry) in (0..s.sizes.n).zip(entries.iter_mut()) {
+        *entry = s.entries.draw(s.sizes.documents, i, draw(seed, 1));
+    }
+    // Each entry falls under a term.
+    for i in 0..s.sizes.n {
+        let term = s.lengths.draw(s.sizes.terms, i, draw(seed, 2));
+        if let Some(length) = lengths.get_mut(term as usize) {
+            *length = length.wrapping_add(1);
+        }
+    }
+    let drawn = Library {
+        archive: &[],
+        entries: &entries,
+        lengths: &lengths,
+        sizes: s.sizes,
     };
-    fill_entries(s.entries, s.n, s.documents, draw(seed, 1), &mut entries);
-    fill_lengths(s.lengths, s.n, s.terms, draw(seed, 2), &mut lengths);
-    write_and_ask(&entries, &lengths, l, s.questions, draw(seed, 3), made);
+    write_and_ask(drawn, s.questions, draw(seed, 3), made);
 }
 
-fn write_and_ask(
-    entries: &[u32],
-    lengths: &[u32],
-    l: Sizes,
-    questions: u32,
-    seed: u32,
-    made: &mut Tally,
-) {
+fn write_and_ask(l: Library, questions: u32, seed: u32, made: &mut Tally) {
     let junk = (draw(seed, 1) % 256) as u8;
     let mut target = [junk; 137400];
-    let size = length_of(l);
+    let size = length_of(l.sizes);
     if once_in(draw(seed, 2), 8) {
-        archives::write_short(entries, lengths, l, made);
+        archives::write_short(l, made);
     }
-    archives::write(
-        entries,
-        lengths,
-        l,
-        plus(size, below(draw(seed, 3), 6)),
-        junk,
-        &mut target,
-        made,
-    );
-    ask_written(
-        &target,
-        size,
-        entries,
-        lengths,
-        l,
-        questions,
-        draw(seed, 4),
-        made,
-    );
+    let lent = size.wrapping_add(below(draw(seed, 3), 6));
+    archives::write(l, lent, junk, &mut target, made);
+    if let Some(archive) = target.get(..size as usize) {
+        ask_written(Library { archive, ..l }, questions, draw(seed, 4), made);
+    }
 }
+
+const NUMBERS: [Kind; 7] = [
+    Kind::Access,
+    Kind::Rank,
+    Kind::Select,
+    Kind::QuantileOfEntries,
+    Kind::QuantileOfTerms,
+    Kind::RangeOfTerms,
+    Kind::PerMille,
+];
+
+const LISTS: [Kind; 2] = [Kind::ListOfEntries, Kind::ListOfTerms];
+
+const SEARCHES: [Kind; 4] = [
+    Kind::GreedyOfEntries,
+    Kind::GreedyOfTerms,
+    Kind::ProbingOfEntries,
+    Kind::ProbingOfTerms,
+];
 
 // The kind of question number i: of a number more often than of documents.
-fn kind_of(i: u32) -> u32 {
-    let k = i % 33;
-    if k < 14 {
-        return 3 + k % 7;
+fn kind_of(i: u32) -> Kind {
+    let turn = i as usize % 33;
+    match turn {
+        0..=13 => NUMBERS[turn % 7],
+        14..=17 => LISTS[turn % 2],
+        18..=21 => Kind::Conjunction,
+        22..=29 => SEARCHES[turn % 4],
+        _ => Kind::Weighted,
     }
-    if k < 18 {
-        return 10 + k % 2;
-    }
-    if k < 22 {
-        return 12;
-    }
-    if k < 30 {
-        return 13 + k % 4;
-    }
-    17
 }
 
-fn ask_one(
-    kind: u32,
-    archive: &[u8],
-    entries: &[u32],
-    lengths: &[u32],
-    l: Sizes,
-    seed: u32,
-    made: &mut Tally,
-) {
+fn ask_one(kind: Kind, l: Library, seed: u32, made: &mut Tally) {
     match kind {
-        3 | 4 | 5 | 6 | 7 | 8 => numbers::ask(kind, archive, entries, lengths, l, seed, made),
-        9 => rates::ask(rates::rate(seed), made),
-        10 | 11 => lists::list(kind, archive, entries, lengths, l, seed, made),
-        12 => lists::conjunction(archive, entries, lengths, l, seed, made),
-        _ => searches::ask_drawn(kind, archive, entries, lengths, l, seed, made),
+        Kind::Access
+        | Kind::Rank
+        | Kind::Select
+        | Kind::QuantileOfEntries
+        | Kind::QuantileOfTerms
+        | Kind::RangeOfTerms => numbers::ask(kind, l, seed, made),
+        Kind::PerMille => rates::ask(rates::rate(seed), made),
+        Kind::ListOfEntries | Kind::ListOfTerms => lists::list(kind, l, seed, made),
+        Kind::Conjunction => lists::conjunction(l, seed, made),
+        _ => searches::ask_drawn(kind, l, seed, made),
     }
 }
 
-// So many questions, kind by kind.
-fn ask(
-    times: u32,
-    archive: &[u8],
-    entries: &[u32],
-    lengths: &[u32],
-    l: Sizes,
-    seed: u32,
-    made: &mut Tally,
-) {
-    let mut i = 0;
-    while i < times {
-        ask_one(
-            kind_of(i),
-            archive,
-            entries,
-            lengths,
-            l,
-            draw(seed, i),
-            made,
-        );
-        i += 1;
+// So many questions, kind by kind, and a fourth as many each with and, or, not, of sets of documents, and of orders of terms.
+fn ask_drawn(l: Library, questions: u32, seed: u32, made: &mut Tally) {
+    for i in 0..questions {
+        ask_one(kind_of(i), l, draw(seed, i), made);
+    }
+    for i in 0..questions / 4 {
+        booleans::ask_drawn(l, draw(draw(seed, 5), i), made);
+        sets::ask_drawn(l, draw(draw(seed, 6), i), made);
+        orders::ask_drawn(l, draw(draw(seed, 7), i), made);
     }
 }
 
-// So many questions with and, or, not.
-fn ask_booleans(
-    times: u32,
-    archive: &[u8],
-    entries: &[u32],
-    lengths: &[u32],
-    l: Sizes,
-    seed: u32,
-    made: &mut Tally,
-) {
-    let mut i = 0;
-    while i < times {
-        booleans::ask_drawn(archive, entries, lengths, l, draw(seed, i), made);
-        i += 1;
+// The check on opening, the reader and the questions, of a written library. Not large libraries are walked too, over the places of two documents, any and
+// that of the first entry, and asked for every order of a few terms.
+fn ask_written(l: Library, questions: u32, seed: u32, made: &mut Tally) {
+    archives::open(l, made);
+    archives::read(l, seed, made);
+    ask_drawn(l, questions, seed, made);
+    if l.sizes.n < 1000 {
+        places::walk(l, below(draw(seed, 4), l.sizes.documents), made);
+        places::walk(l, number_at(l.entries, 0), made);
+        orders::ask_orders(l, draw(seed, 8), made);
     }
-}
-
-// So many sets of documents.
-fn ask_sets(times: u32, archive: &[u8], entries: &[u32], l: Sizes, seed: u32, made: &mut Tally) {
-    let mut i = 0;
-    while i < times {
-        sets::ask_drawn(archive, entries, l, draw(seed, i), made);
-        i += 1;
-    }
-}
-
-// So many orders of terms.
-fn ask_orders(times: u32, archive: &[u8], lengths: &[u32], l: Sizes, seed: u32, made: &mut Tally) {
-    let mut i = 0;
-    while i < times {
-        orders::ask_drawn(archive, lengths, l, draw(seed, i), made);
-        i += 1;
-    }
-}
-
-// The check on opening, the reader and the questions, of the archive in the front of a target. Not large libraries are walked too, and asked for every order
-// of a few terms.
-fn ask_written(
-    target: &[u8],
-    size: u32,
-    entries: &[u32],
-    lengths: &[u32],
-    l: Sizes,
-    questions: u32,
-    seed: u32,
-    made: &mut Tally,
-) {
-    let from = 0;
-    let to = size as usize;
-    if target.len() < to {
-        return;
-    }
-    let archive = &target[from..to];
-    archives::open(archive, l, made);
-    archives::read(archive, entries, lengths, l, seed, made);
-    ask(questions, archive, entries, lengths, l, seed, made);
-    ask_booleans(
-        questions / 4,
-        archive,
-        entries,
-        lengths,
-        l,
-        draw(seed, 5),
-        made,
-    );
-    ask_sets(questions / 4, archive, entries, l, draw(seed, 6), made);
-    ask_orders(questions / 4, archive, lengths, l, draw(seed, 7), made);
-    if l.n < 1000 {
-        walk(archive, entries, l, seed, made);
-        orders::ask_orders(archive, entries, lengths, l, draw(seed, 8), made);
-    }
-}
-
-// Over the places of two documents, any and that of the first entry.
-fn walk(archive: &[u8], entries: &[u32], l: Sizes, seed: u32, made: &mut Tally) {
-    let d = below(draw(seed, 4), l.documents);
-    places::walk(archive, entries, l, d, made);
-    places::walk(archive, entries, l, at(entries, 0), made);
 }

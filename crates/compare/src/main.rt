@@ -2,26 +2,26 @@
 // the code and beside a plain count over the list.
 #![tactic(auto)]
 
+mod answered;
 mod archives;
 mod library;
 mod patterns;
 mod sequences;
 mod shapes;
+mod small;
 
-use library::library;
+use library::ask_library;
 use patterns::patterns;
 use sequences::sequences;
 use shapes::shape_of;
-use trials::differences::{Tally, totals};
+use trials::differences::Tally;
 use trials::random::draw;
 use trials::rates::ask_rates;
 
 fn libraries(made: &mut Tally) {
-    let mut i: u32 = 0;
-    while i < 3105 {
+    for i in 0..3105 {
         let seed = draw(2026, i);
-        library(shape_of(i, seed), seed, made);
-        i += 1;
+        ask_library(shape_of(i, seed), seed, made);
     }
 }
 
@@ -31,5 +31,5 @@ fn main(rt: HostRuntime) {
     patterns(&mut made);
     sequences(&mut made);
     ask_rates(&mut made);
-    totals(&made);
+    made.totals();
 }

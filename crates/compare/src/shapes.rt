@@ -1,34 +1,45 @@
 // How large a random library is, and how its entries and terms are drawn.
-use slices::{plus, up};
+use plain::outcome::Sizes;
 use trials::random::{below, draw};
 
-// n, N and W; how entries and how terms are drawn; how many questions of a group are asked.
-#[derive(Clone, Copy)]
+// How numbers below m are drawn: evenly, low ones more often, always the same one, or in turn.
+#[derive(Clone, Copy, Debug, PartialEq, Eq)]
+pub enum Drawing {
+    Even,
+    Low,
+    Same,
+    InTurn,
+}
+
+// The sizes; how entries and how terms are drawn; how many questions of a group are asked.
+#[derive(Clone, Copy, Debug, PartialEq, Eq)]
 pub struct Shape {
-    pub n: u32,
-    pub documents: u32,
-    pub terms: u32,
-    pub entries: u32,
-    pub lengths: u32,
+    pub sizes: Sizes,
+    pub entries: Drawing,
+    pub lengths: Drawing,
     pub questions: u32,
 }
 
-// Number i of m numbers: evenly drawn, low ones more often, always the same one, or in turn.
-pub fn drawn(how: u32, m: u32, i: u32, seed: u32) -> u32 {
-    let any = draw(seed, i);
-    if how == 0 {
-        return below(any, m);
+impl Drawing {
+    fn number(i: u32) -> Drawing {
+        match i % 4 {
+            0 => Drawing::Even,
+            1 => Drawing::Low,
+            2 => Drawing::Same,
+            _ => Drawing::InTurn,
+        }
     }
-    if how == 1 {
-        return below(any, below(draw(any, 1), m));
+
+    // Number i of m numbers.
+    pub fn draw(self, m: u32, i: u32, seed: u32) -> u32 {
+        let any = draw(seed, i);
+        match self {
+            Drawing::Even => below(any, m),
+            Drawing::Low => below(any, below(draw(any, 1), m)),
+            Drawing::Same => below(seed, m),
+            Drawing::InTurn => i.checked_rem(m).unwrap_or(0),
+        }
     }
-    if how == 2 {
-        return below(seed, m);
-    }
-    if m == 0 {
-        return 0;
-    }
-    i % m
 }
 
 // Few entries now and then.
@@ -49,10 +60,10 @@ fn documents(seed: u32) -> u32 {
         4 => 5,
         5 => 4095,
         6 => 4096,
-        7 => up(1, below(draw(seed, 2), 13)),
-        8 => plus(below(draw(seed, 3), 400), 1),
-        9 => plus(below(draw(seed, 5), 4096), 1),
-        _ => plus(below(draw(seed, 4), 40), 1),
+        7 => 2u32.wrapping_pow(below(draw(seed, 2), 13)),
+        8 => below(draw(seed, 3), 400).wrapping_add(1),
+        9 => below(draw(seed, 5), 4096).wrapping_add(1),
+        _ => below(draw(seed, 4), 40).wrapping_add(1),
     }
 }
 
@@ -61,19 +72,21 @@ fn terms(seed: u32) -> u32 {
         0 => 1,
         1 => 2,
         2 => 4096,
-        3 => plus(below(draw(seed, 2), 300), 1),
-        _ => plus(below(draw(seed, 3), 12), 1),
+        3 => below(draw(seed, 2), 300).wrapping_add(1),
+        _ => below(draw(seed, 3), 12).wrapping_add(1),
     }
 }
 
 // With any N and W.
 fn of_size(n: u32, questions: u32, seed: u32) -> Shape {
     Shape {
-        n,
-        documents: documents(draw(seed, 1)),
-        terms: terms(draw(seed, 2)),
-        entries: below(draw(seed, 3), 4),
-        lengths: below(draw(seed, 4), 4),
+        sizes: Sizes {
+            n,
+            documents: documents(draw(seed, 1)),
+            terms: terms(draw(seed, 2)),
+        },
+        entries: Drawing::number(below(draw(seed, 3), 4)),
+        lengths: Drawing::number(below(draw(seed, 4), 4)),
         questions,
     }
 }
@@ -92,11 +105,13 @@ fn middle(i: u32) -> u32 {
 // All entries of the one term in one document of 4,096: no term can weigh more, and no score be larger.
 fn heaviest() -> Shape {
     Shape {
-        n: 65535,
-        documents: 4096,
-        terms: 1,
-        entries: 2,
-        lengths: 2,
+        sizes: Sizes {
+            n: 65535,
+            documents: 4096,
+            terms: 1,
+        },
+        entries: Drawing::Same,
+        lengths: Drawing::Same,
         questions: 132,
     }
 }
@@ -104,25 +119,23 @@ fn heaviest() -> Shape {
 // As large as they may be.
 fn largest(i: u32) -> Shape {
     Shape {
-        n: 65535,
-        documents: 4096,
-        terms: 4096,
-        entries: i % 4,
-        lengths: i / 2 % 2,
+        sizes: Sizes {
+            n: 65535,
+            documents: 4096,
+            terms: 4096,
+        },
+        entries: Drawing::number(i),
+        lengths: Drawing::number(i / 2 % 2),
         questions: 132,
     }
 }
 
 // The shape of library i: 3,000 small ones, 100 middle ones, the four largest, then the heaviest.
 pub fn shape_of(i: u32, seed: u32) -> Shape {
-    if i < 3000 {
-        return of_size(size(draw(seed, 5)), 82, seed);
+    match i {
+        0..=2999 => of_size(size(draw(seed, 5)), 82, seed),
+        3000..=3099 => of_size(middle(i), 132, seed),
+        3100..=3103 => largest(i),
+        _ => heaviest(),
     }
-    if i < 3100 {
-        return of_size(middle(i), 132, seed);
-    }
-    if i < 3104 {
-        return largest(i);
-    }
-    heaviest()
 }

@@ -3,14 +3,12 @@
 #![tactic(auto)]
 
 pub mod archive;
-mod asked;
 pub mod boolean;
 pub mod marks;
 pub mod numbers;
 pub mod orders;
 pub mod outcome;
 pub mod pairs;
-mod places;
 mod postfix;
 pub mod rate;
 mod reading;

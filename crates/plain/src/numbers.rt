@@ -1,147 +1,100 @@
 // Questions for a number, by a plain count over the list.
-use crate::outcome::{NUMBER, Outcome, Question, REFUSED, Sizes, number, outcome_of, refused};
-use slices::{at, count_at, plus};
+use crate::outcome::{Bounds, Found, Kind, Question, Refusal, Sizes};
+use slices::{at, count_at};
 
-fn access(entries: &[u32], l: Sizes, place: u32) -> Outcome {
+fn access(entries: &[u32], l: Sizes, place: u32) -> Result<u32, Refusal> {
     if l.n <= place {
-        return refused(11);
+        return Err(Refusal::Argument);
     }
-    number(at(entries, place))
+    Ok(at(entries, place))
 }
 
-// How many of the entries below a place equal a document.
-fn occurrences(entries: &[u32], document: u32, place: u32) -> u32 {
-    let mut seen = 0;
-    let mut i = 0;
-    while i < place {
-        if at(entries, i) == document {
-            seen = plus(seen, 1);
-        }
-        i += 1;
+fn rank(entries: &[u32], l: Sizes, document: u32, place: u32) -> Result<u32, Refusal> {
+    if l.documents <= document || l.n < place {
+        return Err(Refusal::Argument);
     }
-    seen
-}
-
-fn rank(entries: &[u32], l: Sizes, document: u32, place: u32) -> Outcome {
-    if l.documents <= document {
-        return refused(11);
-    }
-    if l.n < place {
-        return refused(11);
-    }
-    number(occurrences(entries, document, place))
+    let before = entries.iter().take(place as usize);
+    Ok(before.filter(|x| **x == document).count() as u32)
 }
 
 // The first place of a document from a place on; n where there is none.
 pub fn next_place(entries: &[u32], n: u32, document: u32, from: u32) -> u32 {
-    let mut i = from;
-    while i < n {
-        if at(entries, i) == document {
-            return i;
-        }
-        i += 1;
-    }
-    n
+    (from..n).find(|i| at(entries, *i) == document).unwrap_or(n)
 }
 
 // The place of the j-th entry of a document; n where it has fewer.
-fn place_of(entries: &[u32], n: u32, document: u32, j: u32) -> Outcome {
-    let mut seen = 0;
-    let mut i = 0;
-    while i < n {
-        if at(entries, i) == document {
-            seen = plus(seen, 1);
-            if seen == j {
-                return number(i);
-            }
-        }
-        i += 1;
+fn select(entries: &[u32], l: Sizes, document: u32, j: u32) -> Result<u32, Refusal> {
+    if l.documents <= document || j == 0 {
+        return Err(Refusal::Argument);
     }
-    number(n)
+    let mut places = (0..l.n).filter(|i| at(entries, *i) == document);
+    Ok(places.nth(j as usize - 1).unwrap_or(l.n))
 }
 
-fn select(entries: &[u32], l: Sizes, document: u32, j: u32) -> Outcome {
-    if l.documents <= document {
-        return refused(11);
-    }
-    if j == 0 {
-        return refused(11);
-    }
-    place_of(entries, l.n, document, j)
-}
-
-// The entries under the first so many terms, or how many of these are asked for.
-pub fn total(lengths: &[u32], terms: u32) -> u32 {
-    let mut sum = 0;
-    let mut t = 0;
-    while t < terms {
-        sum = plus(sum, at(lengths, t));
-        t += 1;
-    }
-    sum
+// The entries under the first so many terms.
+fn total(lengths: &[u32], terms: u32) -> u32 {
+    let first = lengths.iter().take(terms as usize);
+    first.fold(0u32, |sum, length| sum.wrapping_add(*length))
 }
 
 // From the start of term f to the end of term g.
-pub fn range_of_terms(lengths: &[u32], l: Sizes, f: u32, g: u32) -> Outcome {
-    if g < f {
-        return refused(11);
+pub fn range_of_terms(lengths: &[u32], l: Sizes, f: u32, g: u32) -> Result<Bounds, Refusal> {
+    if g < f || l.terms <= g {
+        return Err(Refusal::Argument);
     }
-    if l.terms <= g {
-        return refused(11);
-    }
-    outcome_of(NUMBER, total(lengths, f), total(lengths, plus(g, 1)))
+    Ok(Bounds {
+        from: total(lengths, f),
+        to: total(lengths, g + 1),
+    })
 }
 
-pub fn range_of_entries(l: Sizes, a: u32, b: u32) -> Outcome {
-    if b < a {
-        return refused(11);
+pub fn range_of_entries(l: Sizes, a: u32, b: u32) -> Result<Bounds, Refusal> {
+    if b < a || l.n < b {
+        return Err(Refusal::Argument);
     }
-    if l.n < b {
-        return refused(11);
-    }
-    outcome_of(NUMBER, a, b)
+    Ok(Bounds { from: a, to: b })
 }
 
-// How often each document occurs among the entries a up to but without b.
-pub fn count(entries: &[u32], a: u32, b: u32, counts: &mut [u32]) {
-    let mut i = a;
-    while i < b {
-        count_at(counts, at(entries, i));
-        i += 1;
+// The place where a document first stands in a range, counted from entry 0 (document 02, M-108).
+pub fn first_place(entries: &[u32], range: Bounds, document: u32) -> u32 {
+    next_place(entries, range.to, document, range.from)
+}
+
+// The entries of a range.
+pub fn part(entries: &[u32], range: Bounds) -> &[u32] {
+    let part = entries.get(range.from as usize..range.to as usize);
+    part.unwrap_or_default()
+}
+
+// How often each document occurs in a range.
+pub fn counts(entries: &[u32], range: Bounds) -> [u32; 4096] {
+    let mut counts = [0; 4096];
+    for x in part(entries, range) {
+        count_at(&mut counts, *x);
     }
+    counts
 }
 
 // The first document with more than r entries up to and with it.
-fn ranked(counts: &[u32], documents: u32, r: u32) -> Outcome {
-    let mut seen = 0;
-    let mut d = 0;
-    while d < documents {
-        seen = plus(seen, at(counts, d));
-        if r < seen {
-            return number(d);
+fn quantile(entries: &[u32], l: Sizes, range: Bounds, r: u32) -> Result<u32, Refusal> {
+    let mut left = r;
+    for (d, count) in (0..l.documents).zip(&counts(entries, range)) {
+        if left < *count {
+            return Ok(d);
         }
-        d += 1;
+        left -= *count;
     }
-    refused(11)
+    Err(Refusal::Argument)
 }
 
-fn quantile(entries: &[u32], l: Sizes, range: Outcome, r: u32) -> Outcome {
-    let mut counts = [0u32; 4096];
-    if range.what == REFUSED {
-        return range;
-    }
-    count(entries, range.x, range.y, &mut counts);
-    ranked(&counts, l.documents, r)
-}
-
-pub fn answer(entries: &[u32], lengths: &[u32], l: Sizes, q: Question) -> Outcome {
-    let kind = q.kind;
-    match kind {
-        3 => access(entries, l, q.a),
-        4 => rank(entries, l, q.a, q.b),
-        5 => select(entries, l, q.a, q.b),
-        6 => quantile(entries, l, range_of_entries(l, q.a, q.b), q.c),
-        7 => quantile(entries, l, range_of_terms(lengths, l, q.a, q.b), q.c),
-        _ => range_of_terms(lengths, l, q.a, q.b),
-    }
+pub fn answer(entries: &[u32], lengths: &[u32], l: Sizes, q: Question) -> Result<Found, Refusal> {
+    let number = match q.kind {
+        Kind::Access => access(entries, l, q.a)?,
+        Kind::Rank => rank(entries, l, q.a, q.b)?,
+        Kind::Select => select(entries, l, q.a, q.b)?,
+        Kind::QuantileOfEntries => quantile(entries, l, range_of_entries(l, q.a, q.b)?, q.c)?,
+        Kind::QuantileOfTerms => quantile(entries, l, range_of_terms(lengths, l, q.a, q.b)?, q.c)?,
+        _ => return Ok(Found::from(range_of_terms(lengths, l, q.a, q.b)?)),
+    };
+    Ok(Found::Number(number))
 }

@@ -1,77 +1,52 @@
 // Questions with and, or, not: with a reading, with one number edited, and noise.
-use crate::differences::{Tally, compare, count_matches, differences, show_numbers};
-use crate::edits::put_edited;
-use crate::expressions::{Style, put_expression};
-use crate::numbers::answered;
+use crate::answered::answered;
+use crate::differences::Tally;
+use crate::edits::edit;
+use crate::expressions::{Style, expression};
+use crate::library::{Library, Numbers, number_at, size_of};
 use crate::random::{below, draw, near, once_in, room};
+use arrayvec::ArrayVec;
 use plain::marks::WORDS;
-use plain::outcome::{Outcome, Question, Sizes, refused};
-use slices::{at, least, plus, put_short, same};
+use plain::outcome::{Found, Kind, Question, Refusal, Sizes};
 
-// The numbers of a question in 16 bits each.
-fn put_shorts(numbers: &[u32], size: u32, shorts: &mut [u16]) {
-    let mut i = 0;
-    while i < size {
-        put_short(shorts, i, at(numbers, i));
-        i += 1;
-    }
-}
-
-// Asks the first so many numbers, with the first so many numbers of the answers lent.
+// Asks the numbers, in 16 bits each, with the first so many numbers of the answers lent.
 fn boolean_into(
     archive: &[u8],
     numbers: &[u32],
-    size: u32,
     lent: u32,
     answers: &mut [u32],
-) -> Outcome {
-    let mut shorts = [0u16; 72];
-    put_shorts(numbers, size, &mut shorts);
-    let from = 0;
-    let to = size as usize;
-    let most = lent as usize;
-    if 72 < to {
-        return refused(0);
+) -> Result<Found, Refusal> {
+    let mut shorts = ArrayVec::<u16, 72>::new();
+    for number in numbers {
+        let _ = shorts.try_push((number % 65536) as u16);
     }
-    if answers.len() < most {
-        return refused(0);
-    }
-    answered(boolean::boolean(archive, &shorts[from..to], &mut answers[from..most]))
+    let answers = answers.get_mut(..lent as usize).ok_or(Refusal::Unlent)?;
+    answered(boolean::boolean(archive, shorts.as_slice(), answers))
 }
 
-// A question of so many numbers, and the room that is lent. What is lent holds the junk at first.
-pub fn ask(
-    q: Question,
-    numbers: &[u32],
-    archive: &[u8],
-    entries: &[u32],
-    lengths: &[u32],
-    l: Sizes,
-    junk: u32,
-    made: &mut Tally,
-) {
+// A question, and the room that is lent. What is lent holds the junk at first.
+pub fn ask(q: Question, numbers: &[u32], l: Library, junk: u32, made: &mut Tally) {
     let mut answers = [junk; 4104];
     let mut plain = [junk; 4104];
-    let before = differences(made);
-    let found = boolean_into(archive, numbers, q.d, q.answers, &mut answers);
+    let found = boolean_into(l.archive, numbers, q.answers, &mut answers);
     let expected = plain::boolean::boolean(
-        entries, lengths, l, numbers, q.d, q.answers, &mut plain,
+        l.entries, l.lengths, l.sizes, numbers, q.answers, &mut plain,
     );
-    compare(q, found, expected, same(&answers, &plain), made);
-    count_matches(expected, l.documents, made);
-    if before < differences(made) {
-        show_numbers(numbers, q.d, made);
+    let alike = made.compare(q, found, expected, answers == plain);
+    made.count_matches(expected, l.sizes.documents);
+    if !alike {
+        made.show(numbers);
     }
 }
 
 // As a question: the first three numbers, and how many there are.
-pub fn named(kind: u32, numbers: &[u32], size: u32, lent: u32) -> Question {
+pub fn named(kind: Kind, numbers: &[u32], lent: u32) -> Question {
     Question {
         kind,
-        a: at(numbers, 0),
-        b: at(numbers, 1),
-        c: at(numbers, 2),
-        d: size,
+        a: number_at(numbers, 0),
+        b: number_at(numbers, 1),
+        c: number_at(numbers, 2),
+        d: size_of(numbers),
         answers: lent,
         work: 0,
     }
@@ -81,9 +56,9 @@ pub fn named(kind: u32, numbers: &[u32], size: u32, lent: u32) -> Question {
 fn drawn_words(l: Sizes, seed: u32) -> u32 {
     match below(draw(seed, 1), 16) {
         0 => WORDS,
-        1 => least(plus(l.terms, 1), WORDS),
-        2 | 3 | 4 => l.terms,
-        _ => least(l.terms, plus(below(draw(seed, 2), 6), 1)),
+        1 => l.terms.wrapping_add(1).min(WORDS),
+        2..=4 => l.terms,
+        _ => l.terms.min(below(draw(seed, 2), 6).wrapping_add(1)),
     }
 }
 
@@ -100,8 +75,8 @@ fn drawn_depth(seed: u32) -> u32 {
 fn drawn_style(l: Sizes, seed: u32) -> Style {
     Style {
         words: drawn_words(l, draw(seed, 1)),
-        brackets: plus(below(draw(seed, 2), 4), 1),
-        nots: plus(below(draw(seed, 3), 6), 2),
+        brackets: below(draw(seed, 2), 4).wrapping_add(1),
+        nots: below(draw(seed, 3), 6).wrapping_add(2),
         depth: drawn_depth(draw(seed, 4)),
         noise: once_in(draw(seed, 5), 4),
     }
@@ -110,42 +85,31 @@ fn drawn_style(l: Sizes, seed: u32) -> Style {
 // From 0 to 65, or a few: noise has a reading only where it is short.
 fn drawn_size(s: Style, seed: u32) -> u32 {
     if once_in(draw(seed, 1), 2) {
-        return least(near(draw(seed, 2), 64), 65);
+        return near(draw(seed, 2), 64).min(65);
     }
     let few = if s.noise { 8 } else { 20 };
     below(draw(seed, 3), few)
 }
 
-// A question, one in three of them edited; how many numbers it has.
-fn put_drawn(l: Sizes, seed: u32, numbers: &mut [u32]) -> u32 {
-    let mut first = [0u32; 72];
+// A question, one in three of them edited.
+fn drawn(l: Sizes, seed: u32) -> Numbers {
     let s = drawn_style(l, draw(seed, 1));
     let size = drawn_size(s, draw(seed, 2));
     if once_in(draw(seed, 3), 3) {
-        put_expression(s, plus(size, 1), draw(seed, 4), &mut first);
-        return put_edited(&first, plus(size, 1), s.words, draw(seed, 5), numbers);
+        let mut numbers = expression(s, size.wrapping_add(1), draw(seed, 4));
+        edit(&mut numbers, s.words, draw(seed, 5));
+        return numbers;
     }
-    put_expression(s, size, draw(seed, 4), numbers);
-    size
+    expression(s, size, draw(seed, 4))
 }
 
-pub fn ask_drawn(
-    archive: &[u8],
-    entries: &[u32],
-    lengths: &[u32],
-    l: Sizes,
-    seed: u32,
-    made: &mut Tally,
-) {
-    let mut numbers = [0u32; 72];
-    let size = put_drawn(l, draw(seed, 1), &mut numbers);
-    let q = named(21, &numbers, size, room(draw(seed, 2), l.documents));
+pub fn ask_drawn(l: Library, seed: u32, made: &mut Tally) {
+    let question = drawn(l.sizes, draw(seed, 1));
+    let numbers = question.as_slice();
+    let lent = room(draw(seed, 2), l.sizes.documents);
     ask(
-        q,
-        &numbers,
-        archive,
-        entries,
-        lengths,
+        named(Kind::Boolean, numbers, lent),
+        numbers,
         l,
         draw(seed, 3),
         made,

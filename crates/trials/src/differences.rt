@@ -1,303 +1,180 @@
-// How many questions of each kind were compared, and a line for each difference.
-use plain::outcome::{DONE, NUMBER, Outcome, Question, REFUSED, SPENT};
-use slices::{at, count_at, plus};
+// How many questions of each kind were compared, and a line for each difference. A write that fails is passed over.
+use plain::outcome::{Found, Kind, Question, Refusal};
 use std::io::Stdout;
 
-// What was counted, each kind in its slot, and where lines go.
+// Counts of members among a number of candidates: how many were none of them, some, and all.
+#[derive(Clone, Copy, Debug, PartialEq, Eq, Default)]
+struct Shares {
+    none: u32,
+    some: u32,
+    all: u32,
+}
+
+impl Shares {
+    fn add(&mut self, members: u32, candidates: u32) {
+        if members == 0 {
+            count(&mut self.none);
+        } else if members == candidates {
+            count(&mut self.all);
+        } else {
+            count(&mut self.some);
+        }
+    }
+}
+
+// What was counted, and where lines go.
 #[derive(Drop)]
 pub struct Tally {
-    slots: [u32; 64],
+    // Of each kind, in the order of the kinds, and the refusals, by their numbers.
+    questions: [u32; 27],
+    refusals: [u32; 20],
+    // Ends of the weighted searches of patterns.
+    done: u32,
+    spent: u32,
+    places_at_the_end: u32,
+    // Documents that match a boolean question.
+    matches: Shares,
+    rates_at_a_half: u32,
+    // Entries before a place that belong to a set.
+    members: Shares,
+    differences: u32,
     out: Stdout,
+}
+
+fn count(number: &mut u32) {
+    *number = number.wrapping_add(1);
+}
+
+fn count_at(numbers: &mut [u32], place: usize) {
+    if let Some(number) = numbers.get_mut(place) {
+        count(number);
+    }
 }
 
 impl Tally {
     pub fn new(out: Stdout) -> Tally {
         Tally {
-            slots: [0u32; 64],
+            questions: [0; 27],
+            refusals: [0; 20],
+            done: 0,
+            spent: 0,
+            places_at_the_end: 0,
+            matches: Shares::default(),
+            rates_at_a_half: 0,
+            members: Shares::default(),
+            differences: 0,
             out,
         }
     }
-}
 
-// A write that fails is passed over.
-pub fn text(bytes: &[u8], out: Stdout) {
-    let _ = out.write_all(bytes);
-}
-
-pub fn decimal(x: u32, out: Stdout) {
-    let _ = out.print(x);
-}
-
-// The kinds of questions.
-fn name(kind: u32, out: Stdout) {
-    match kind {
-        0 => text(b"write", out),
-        1 => text(b"open", out),
-        2 => text(b"read", out),
-        3 => text(b"access", out),
-        4 => text(b"rank", out),
-        5 => text(b"select", out),
-        6 => text(b"quantile of entries", out),
-        7 => text(b"quantile of terms", out),
-        8 => text(b"range of terms", out),
-        9 => text(b"per mille", out),
-        10 => text(b"list of entries", out),
-        11 => text(b"list of terms", out),
-        12 => text(b"conjunction", out),
-        13 => text(b"greedy of entries", out),
-        14 => text(b"greedy of terms", out),
-        15 => text(b"probing of entries", out),
-        16 => text(b"probing of terms", out),
-        17 => text(b"weighted", out),
-        18 => text(b"walk of places", out),
-        19 => text(b"conjunction of patterns", out),
-        20 => text(b"weighted of patterns", out),
-        21 => text(b"boolean", out),
-        22 => text(b"boolean of sequences", out),
-        23 => text(b"per mille of small sizes", out),
-        24 => text(b"rank of a set", out),
-        25 => text(b"rarest first", out),
-        _ => text(b"weighted of orders", out),
+    // Counts a comparison: the outcomes, and whether the lent slices are alike. Whether there is no difference.
+    pub fn compare(
+        &mut self,
+        q: Question,
+        found: Result<Found, Refusal>,
+        expected: Result<Found, Refusal>,
+        alike: bool,
+    ) -> bool {
+        count_at(&mut self.questions, q.kind as usize);
+        if let Err(refusal) = expected {
+            count_at(&mut self.refusals, u32::from(refusal) as usize);
+        }
+        if found == expected && alike {
+            return true;
+        }
+        self.difference(q, found, expected);
+        false
     }
-}
 
-const KINDS: u32 = 27;
-
-// A refusal's slot is its number and this.
-const REFUSALS: u32 = 27;
-
-// How many of the weighted searches of patterns end so: an end's slot is its number and this.
-const ENDS: u32 = 48;
-
-// How many of the places that are asked for are the end.
-const AT_THE_END: u32 = 53;
-
-// How many of the boolean questions match no document, some, and all.
-const NO_MATCH: u32 = 54;
-
-const SOME_MATCH: u32 = 55;
-
-const ALL_MATCH: u32 = 56;
-
-// How many of the rates are exact halves.
-const HALVES: u32 = 57;
-
-// How many of the sets have no entry before the place, some, and all of them.
-const NO_MEMBER: u32 = 58;
-
-const SOME_MEMBERS: u32 = 59;
-
-const ALL_MEMBERS: u32 = 60;
-
-const DIFFERENCES: u32 = 63;
-
-fn same(found: Outcome, expected: Outcome) -> bool {
-    if found.what != expected.what {
-        return false;
+    // The number of the library, the question, what was found and what the plain count gives.
+    fn difference(
+        &mut self,
+        q: Question,
+        found: Result<Found, Refusal>,
+        expected: Result<Found, Refusal>,
+    ) {
+        count(&mut self.differences);
+        let library = self.questions[0];
+        let _ = println!(self.out;
+            "difference: library {library}, {q:?}: found {found:?}, expected {expected:?}"
+        );
     }
-    if found.x != expected.x {
-        return false;
+
+    // Of a weighted search of a pattern.
+    pub fn count_end(&mut self, end: Result<Found, Refusal>) {
+        match end {
+            Ok(Found::Done { .. }) => count(&mut self.done),
+            Ok(Found::Spent { .. }) => count(&mut self.spent),
+            _ => {}
+        }
     }
-    if found.y != expected.y {
-        return false;
+
+    // Of a select and of a walk of places, where the answer is n.
+    pub fn count_place(&mut self, place: Result<Found, Refusal>, n: u32) {
+        if place == Ok(Found::Number(n)) {
+            count(&mut self.places_at_the_end);
+        }
     }
-    found.z == expected.z
-}
 
-fn show(x: u32, out: Stdout) {
-    text(b" ", out);
-    decimal(x, out);
-}
-
-fn show_outcome(o: Outcome, out: Stdout) {
-    show(o.what, out);
-    show(o.x, out);
-    show(o.y, out);
-    show(o.z, out);
-}
-
-// The number of the library, the question, what was found and what the plain count gives.
-fn difference(q: Question, found: Outcome, expected: Outcome, made: &mut Tally) {
-    text(b"difference: library", made.out);
-    show(at(&made.slots, 0), made.out);
-    text(b", ", made.out);
-    name(q.kind, made.out);
-    show(q.a, made.out);
-    show(q.b, made.out);
-    show(q.c, made.out);
-    show(q.d, made.out);
-    show(q.answers, made.out);
-    show(q.work, made.out);
-    text(b": found", made.out);
-    show_outcome(found, made.out);
-    text(b", expected", made.out);
-    show_outcome(expected, made.out);
-    text(b"\n", made.out);
-    count_at(&mut made.slots, DIFFERENCES);
-}
-
-// Counts a comparison: the outcomes, and whether the lent slices are alike.
-pub fn compare(q: Question, found: Outcome, expected: Outcome, alike: bool, made: &mut Tally) {
-    count_at(&mut made.slots, q.kind);
-    if expected.what == REFUSED {
-        count_at(&mut made.slots, plus(REFUSALS, expected.x));
+    // Of a boolean question.
+    pub fn count_matches(&mut self, answer: Result<Found, Refusal>, documents: u32) {
+        if let Ok(Found::Number(matches)) = answer {
+            self.matches.add(matches, documents);
+        }
     }
-    if !same(found, expected) {
-        difference(q, found, expected, made);
-        return;
+
+    // Of a rate.
+    pub fn count_half(&mut self, rate: Result<Found, Refusal>, half: bool) {
+        if half && rate.is_ok() {
+            count(&mut self.rates_at_a_half);
+        }
     }
-    if !alike {
-        difference(q, found, expected, made);
+
+    // Of a count of a set before a place.
+    pub fn count_members(&mut self, answer: Result<Found, Refusal>, place: u32) {
+        if let Ok(Found::Number(members)) = answer {
+            self.members.add(members, place);
+        }
     }
-}
 
-pub fn count_end(end: Outcome, made: &mut Tally) {
-    count_at(&mut made.slots, plus(ENDS, end.what));
-}
-
-// Of a select and of a walk of places, where the answer is n.
-pub fn count_place(place: Outcome, n: u32, made: &mut Tally) {
-    if place.what != NUMBER {
-        return;
+    // A line of numbers.
+    pub fn show(&self, numbers: &[u32]) {
+        for x in numbers {
+            let _ = print!(self.out; " {x}");
+        }
+        let _ = println!(self.out);
     }
-    if place.x == n {
-        count_at(&mut made.slots, AT_THE_END);
+
+    // One line a kind of question, and how many were compared; how the weighted searches of patterns ended, how many places were the end, how many
+    // documents matched, how many rates were halves, and how many entries belonged to a set; then how many are refused, by number; then the differences.
+    pub fn totals(&self) {
+        for (kind, times) in Kind::ALL.iter().zip(self.questions.iter()) {
+            let _ = println!(self.out; "{kind} {times}");
+        }
+        self.show_counts();
+        for (number, times) in self.refusals.iter().enumerate() {
+            if *times != 0 {
+                let _ = println!(self.out; "refused {number}: {times}");
+            }
+        }
+        let differences = self.differences;
+        let _ = println!(self.out; "differences {differences}");
     }
-}
 
-// Of a boolean question.
-pub fn count_matches(answer: Outcome, documents: u32, made: &mut Tally) {
-    if answer.what != NUMBER {
-        return;
+    fn show_counts(&self) {
+        let Tally {
+            done,
+            spent,
+            places_at_the_end: places,
+            rates_at_a_half: halves,
+            ..
+        } = self;
+        let Shares { none, some, all } = self.matches;
+        let _ = println!(self.out; "weighted of patterns: done {done}, spent {spent}");
+        let _ = println!(self.out; "places at the end {places}");
+        let _ = println!(self.out; "boolean: no document {none}, some {some}, all {all}");
+        let _ = println!(self.out; "rates at a half {halves}");
+        let Shares { none, some, all } = self.members;
+        let _ = println!(self.out; "rank of a set: no entry {none}, some {some}, all {all}");
     }
-    if answer.x == 0 {
-        count_at(&mut made.slots, NO_MATCH);
-    } else if answer.x == documents {
-        count_at(&mut made.slots, ALL_MATCH);
-    } else {
-        count_at(&mut made.slots, SOME_MATCH);
-    }
-}
-
-// Of a rate.
-pub fn count_half(rate: Outcome, half: bool, made: &mut Tally) {
-    if rate.what != NUMBER {
-        return;
-    }
-    if half {
-        count_at(&mut made.slots, HALVES);
-    }
-}
-
-// Of a count of a set before a place.
-pub fn count_members(count: Outcome, place: u32, made: &mut Tally) {
-    if count.what != NUMBER {
-        return;
-    }
-    if count.x == 0 {
-        count_at(&mut made.slots, NO_MEMBER);
-    } else if count.x == place {
-        count_at(&mut made.slots, ALL_MEMBERS);
-    } else {
-        count_at(&mut made.slots, SOME_MEMBERS);
-    }
-}
-
-// How many there are.
-pub fn differences(made: &Tally) -> u32 {
-    at(&made.slots, DIFFERENCES)
-}
-
-// A line of the first so many numbers.
-pub fn show_numbers(numbers: &[u32], size: u32, made: &Tally) {
-    let mut i = 0;
-    while i < size {
-        show(at(numbers, i), made.out);
-        i += 1;
-    }
-    text(b"\n", made.out);
-}
-
-fn line(kind: u32, made: &Tally) {
-    name(kind, made.out);
-    show(at(&made.slots, kind), made.out);
-    text(b"\n", made.out);
-}
-
-fn kinds(made: &Tally) {
-    let mut kind = 0;
-    while kind < KINDS {
-        line(kind, made);
-        kind += 1;
-    }
-}
-
-fn refusal_line(x: u32, made: &Tally) {
-    let times = at(&made.slots, plus(REFUSALS, x));
-    if times == 0 {
-        return;
-    }
-    text(b"refused", made.out);
-    show(x, made.out);
-    text(b":", made.out);
-    show(times, made.out);
-    text(b"\n", made.out);
-}
-
-fn refusals(made: &Tally) {
-    let mut x = 0;
-    while x < 20 {
-        refusal_line(x, made);
-        x += 1;
-    }
-}
-
-fn ends(made: &Tally) {
-    text(b"weighted of patterns: done", made.out);
-    show(at(&made.slots, plus(ENDS, DONE)), made.out);
-    text(b", spent", made.out);
-    show(at(&made.slots, plus(ENDS, SPENT)), made.out);
-    text(b"\nplaces at the end", made.out);
-    show(at(&made.slots, AT_THE_END), made.out);
-    text(b"\n", made.out);
-}
-
-fn matches(made: &Tally) {
-    text(b"boolean: no document", made.out);
-    show(at(&made.slots, NO_MATCH), made.out);
-    text(b", some", made.out);
-    show(at(&made.slots, SOME_MATCH), made.out);
-    text(b", all", made.out);
-    show(at(&made.slots, ALL_MATCH), made.out);
-    text(b"\n", made.out);
-}
-
-fn halves(made: &Tally) {
-    text(b"rates at a half", made.out);
-    show(at(&made.slots, HALVES), made.out);
-    text(b"\n", made.out);
-}
-
-fn members(made: &Tally) {
-    text(b"rank of a set: no entry", made.out);
-    show(at(&made.slots, NO_MEMBER), made.out);
-    text(b", some", made.out);
-    show(at(&made.slots, SOME_MEMBERS), made.out);
-    text(b", all", made.out);
-    show(at(&made.slots, ALL_MEMBERS), made.out);
-    text(b"\n", made.out);
-}
-
-// One line a kind of question, and how many were compared; how the weighted searches of patterns ended, how many places were the end, how many
-// documents matched, how many rates were halves, and how many entries belonged to a set; then how many are refused, by number; then the differences.
-pub fn totals(made: &Tally) {
-    kinds(made);
-    ends(made);
-    matches(made);
-    halves(made);
-    members(made);
-    refusals(made);
-    text(b"differences", made.out);
-    show(differences(made), made.out);
-    text(b"\n", made.out);
 }

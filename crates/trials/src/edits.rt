@@ -1,29 +1,20 @@
 // A question with one number changed, dropped, added, or exchanged for another of its numbers.
 use crate::expressions::mark_or_word;
+use crate::library::{Numbers, number_at, put, size_of};
 use crate::random::{below, draw, once_in};
 use plain::marks::{AND, CLOSES, WORDS};
-use slices::{at, minus, plus, put};
-
-// What is done at a place: with another place, or with a number.
-#[derive(Clone, Copy)]
-struct Edit {
-    how: u32,
-    place: u32,
-    other: u32,
-    number: u32,
-}
 
 // Numbers that are neither words nor marks, and the largest words: the ends of each class, and any between.
 fn strange(seed: u32) -> u32 {
     match below(draw(seed, 1), 8) {
-        0 => minus(WORDS, 1),
+        0 => WORDS - 1,
         1 => WORDS,
-        2 => minus(AND, 1),
-        3 => plus(CLOSES, 1),
+        2 => AND - 1,
+        3 => CLOSES + 1,
         4 => 65535,
         5 => below(draw(seed, 2), WORDS),
-        6 => plus(WORDS, below(draw(seed, 3), minus(AND, WORDS))),
-        _ => plus(CLOSES, plus(below(draw(seed, 4), 5531), 1)),
+        6 => WORDS.wrapping_add(below(draw(seed, 3), AND - WORDS)),
+        _ => (CLOSES + 1).wrapping_add(below(draw(seed, 4), 5531)),
     }
 }
 
@@ -34,78 +25,40 @@ fn drawn_number(words: u32, seed: u32) -> u32 {
     mark_or_word(words, draw(seed, 3))
 }
 
-fn drawn_edit(words: u32, size: u32, seed: u32) -> Edit {
-    Edit {
-        how: below(draw(seed, 1), 4),
-        place: below(draw(seed, 2), plus(size, 1)),
-        other: below(draw(seed, 3), size),
-        number: drawn_number(words, draw(seed, 4)),
+// Edits a question of one number or more, at a place from its first number to its end. At the end there is no number to change, the last one is dropped,
+// and another is exchanged for 0.
+pub fn edit(numbers: &mut Numbers, words: u32, seed: u32) {
+    let size = size_of(numbers.as_slice());
+    let place = below(draw(seed, 2), size.wrapping_add(1)) as usize;
+    let number = drawn_number(words, draw(seed, 4));
+    match below(draw(seed, 1), 4) {
+        0 => put(numbers.as_mut_slice(), place, number),
+        1 => drop_at(numbers, place),
+        2 => add_at(numbers, place, number),
+        _ => exchange(
+            numbers.as_mut_slice(),
+            place,
+            below(draw(seed, 3), size) as usize,
+        ),
     }
 }
 
-fn changed(numbers: &[u32], e: Edit, i: u32) -> u32 {
-    if i == e.place {
-        return e.number;
-    }
-    at(numbers, i)
-}
-
-fn dropped(numbers: &[u32], e: Edit, i: u32) -> u32 {
-    if i < e.place {
-        return at(numbers, i);
-    }
-    at(numbers, plus(i, 1))
-}
-
-fn added(numbers: &[u32], e: Edit, i: u32) -> u32 {
-    if e.place < i {
-        return at(numbers, minus(i, 1));
-    }
-    changed(numbers, e, i)
-}
-
-fn exchanged(numbers: &[u32], e: Edit, i: u32) -> u32 {
-    if i == e.place {
-        return at(numbers, e.other);
-    }
-    if i == e.other {
-        return at(numbers, e.place);
-    }
-    at(numbers, i)
-}
-
-// Number i after an edit.
-fn edited(numbers: &[u32], e: Edit, i: u32) -> u32 {
-    let how = e.how;
-    match how {
-        0 => changed(numbers, e, i),
-        1 => dropped(numbers, e, i),
-        2 => added(numbers, e, i),
-        _ => exchanged(numbers, e, i),
+fn drop_at(numbers: &mut Numbers, place: usize) {
+    if place < numbers.len() {
+        numbers.remove(place);
+    } else {
+        numbers.pop();
     }
 }
 
-fn size_after(e: Edit, size: u32) -> u32 {
-    let how = e.how;
-    match how {
-        1 => minus(size, 1),
-        2 => plus(size, 1),
-        _ => size,
+fn add_at(numbers: &mut Numbers, place: usize, number: u32) {
+    if place <= numbers.len() {
+        let _ = numbers.try_insert(place, number);
     }
 }
 
-fn put_all(numbers: &[u32], e: Edit, size: u32, after: &mut [u32]) {
-    let mut i = 0;
-    while i < size {
-        put(after, i, edited(numbers, e, i));
-        i += 1;
-    }
-}
-
-// A question of so many numbers, one or more, after an edit; how many it has then.
-pub fn put_edited(numbers: &[u32], size: u32, words: u32, seed: u32, after: &mut [u32]) -> u32 {
-    let e = drawn_edit(words, size, seed);
-    let most = size_after(e, size);
-    put_all(numbers, e, most, after);
-    most
+fn exchange(numbers: &mut [u32], place: usize, other: usize) {
+    let x = number_at(numbers, place);
+    put(numbers, place, number_at(numbers, other));
+    put(numbers, other, x);
 }

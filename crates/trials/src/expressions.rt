@@ -1,10 +1,10 @@
 // Questions with and, or, not of any size, drawn from left to right: every one with a reading can come out, and noise where that is asked for.
+use crate::library::Numbers;
 use crate::random::{below, draw, once_in};
 use plain::marks::{AND, CLOSES, NOT, OPENS, OR, WORDS};
-use slices::{minus, plus, put};
 
 // Words are drawn below a number. An operand begins with a bracket or with 'not' once in so many times, and so many brackets may be open at once.
-#[derive(Clone, Copy)]
+#[derive(Clone, Copy, Debug, PartialEq, Eq)]
 pub struct Style {
     pub words: u32,
     pub brackets: u32,
@@ -15,21 +15,14 @@ pub struct Style {
 
 // One of the five marks, or a word three times in eight.
 pub fn mark_or_word(words: u32, seed: u32) -> u32 {
-    let k = below(draw(seed, 1), 8);
-    if k < 5 {
-        return plus(AND, k);
+    match below(draw(seed, 1), 8) {
+        mark @ 0..=4 => AND + mark,
+        _ => below(draw(seed, 2), words),
     }
-    below(draw(seed, 2), words)
 }
 
 fn opens(s: Style, open: u32, spare: u32, seed: u32) -> bool {
-    if spare < 3 {
-        return false;
-    }
-    if open < s.depth {
-        return once_in(seed, s.brackets);
-    }
-    false
+    3 <= spare && open < s.depth && once_in(seed, s.brackets)
 }
 
 fn negates(s: Style, spare: u32, seed: u32) -> bool {
@@ -52,13 +45,7 @@ fn beginning(s: Style, open: u32, spare: u32, seed: u32) -> u32 {
 }
 
 fn closes(open: u32, spare: u32, seed: u32) -> bool {
-    if spare == 0 {
-        return true;
-    }
-    if open == 0 {
-        return false;
-    }
-    once_in(seed, 3)
+    spare == 0 || (open != 0 && once_in(seed, 3))
 }
 
 // What follows an operand.
@@ -83,33 +70,28 @@ fn next(s: Style, operand: bool, open: u32, spare: u32, seed: u32) -> u32 {
 }
 
 fn open_after(open: u32, number: u32) -> u32 {
-    if number == OPENS {
-        return plus(open, 1);
+    match number {
+        OPENS => open.wrapping_add(1),
+        CLOSES => open.wrapping_sub(1),
+        _ => open,
     }
-    if number == CLOSES {
-        return minus(open, 1);
-    }
-    open
 }
 
 fn ends_operand(number: u32) -> bool {
-    if number == CLOSES {
-        return true;
-    }
-    number < WORDS
+    number == CLOSES || number < WORDS
 }
 
 // So many numbers.
-pub fn put_expression(s: Style, size: u32, seed: u32, numbers: &mut [u32]) {
+pub fn expression(s: Style, size: u32, seed: u32) -> Numbers {
+    let mut numbers = Numbers::new();
     let mut operand = false;
     let mut open = 0;
-    let mut i = 0;
-    while i < size {
-        let spare = minus(minus(size, i), open);
+    for i in 0..size {
+        let spare = (size - i).wrapping_sub(open);
         let number = next(s, operand, open, spare, draw(seed, i));
-        put(numbers, i, number);
+        let _ = numbers.try_push(number);
         operand = ends_operand(number);
         open = open_after(open, number);
-        i += 1;
     }
+    numbers
 }

@@ -2,10 +2,12 @@
 // marks, and every rate of a small size, through the code and beside the plain side's answer; differences are printed and counted.
 #![tactic(auto)]
 
+pub mod answered;
 pub mod booleans;
 pub mod differences;
 mod edits;
 mod expressions;
+pub mod library;
 pub mod lists;
 pub mod numbers;
 pub mod orders;

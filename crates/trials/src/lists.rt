@@ -1,28 +1,29 @@
 // Listings, three numbers a document, and conjunctions of one to eight terms, two a document.
-use crate::differences::{Tally, compare};
-use crate::numbers::answered;
+use crate::answered::answered;
+use crate::differences::Tally;
+use crate::library::{Library, front};
 use crate::random::{below, draw, near, once_in, room, two_ends};
 use paths::Terms;
-use plain::outcome::{Outcome, Question, Sizes, refused};
+use plain::outcome::{Found, Kind, Question, Refusal, Sizes};
 use plain::pairs;
-use slices::{least, minus, plus, same, times};
 
 // Lists with the first so many numbers of the answers lent.
-fn list_into(archive: &[u8], q: Question, answers: &mut [u32]) -> Outcome {
-    let from = 0;
-    let to = q.answers as usize;
-    if answers.len() < to {
-        return refused(0);
+fn list_into(archive: &[u8], q: Question, answers: &mut [u32]) -> Result<Found, Refusal> {
+    let answers = answers
+        .get_mut(..q.answers as usize)
+        .ok_or(Refusal::Unlent)?;
+    match q.kind {
+        Kind::ListOfEntries => answered(listing::list(archive, q.a, q.b, answers)),
+        _ => answered(listing::list_terms(archive, q.a, q.b, answers)),
     }
-    if q.kind == 10 {
-        return answered(listing::list(archive, q.a, q.b, &mut answers[from..to]));
-    }
-    answered(listing::list_terms(archive, q.a, q.b, &mut answers[from..to]))
 }
 
 // A range of entries or of terms, with a room for its documents.
-fn drawn(kind: u32, l: Sizes, seed: u32) -> Question {
-    let most = if kind == 10 { l.n } else { minus(l.terms, 1) };
+fn drawn(kind: Kind, l: Sizes, seed: u32) -> Question {
+    let most = match kind {
+        Kind::ListOfEntries => l.n,
+        _ => l.terms.wrapping_sub(1),
+    };
     let e = two_ends(draw(seed, 1), most);
     Question {
         kind,
@@ -30,58 +31,37 @@ fn drawn(kind: u32, l: Sizes, seed: u32) -> Question {
         b: e.last,
         c: 0,
         d: 0,
-        answers: room(draw(seed, 2), times(l.documents, 3)),
+        answers: room(draw(seed, 2), l.documents.wrapping_mul(3)),
         work: 0,
     }
 }
 
-pub fn list(
-    kind: u32,
-    archive: &[u8],
-    entries: &[u32],
-    lengths: &[u32],
-    l: Sizes,
-    seed: u32,
-    made: &mut Tally,
-) {
+pub fn list(kind: Kind, l: Library, seed: u32, made: &mut Tally) {
     let junk = draw(seed, 1);
     let mut answers = [junk; 12300];
     let mut plain = [junk; 12300];
-    let q = drawn(kind, l, draw(seed, 2));
-    let found = list_into(archive, q, &mut answers);
-    let expected = pairs::list(entries, lengths, l, q, &mut plain);
-    compare(q, found, expected, same(&answers, &plain), made);
+    let q = drawn(kind, l.sizes, draw(seed, 2));
+    let found = list_into(l.archive, q, &mut answers);
+    let expected = pairs::list(l.entries, l.lengths, l.sizes, q, &mut plain);
+    made.compare(q, found, expected, answers == plain);
 }
 
-fn conjunction_into(archive: &[u8], t: Terms, lent: u32, answers: &mut [u32]) -> Outcome {
-    let from = 0;
-    let to = lent as usize;
-    if answers.len() < to {
-        return refused(0);
-    }
-    answered(conjunction::conjunction(archive, t, &mut answers[from..to]))
+fn conjunction_into(
+    archive: &[u8],
+    t: Terms,
+    lent: u32,
+    answers: &mut [u32],
+) -> Result<Found, Refusal> {
+    let answers = answers.get_mut(..lent as usize).ok_or(Refusal::Unlent)?;
+    answered(conjunction::conjunction(archive, t, answers))
 }
 
 // A term, now and then W or more.
 fn drawn_term(most: u32, seed: u32) -> u32 {
     if once_in(draw(seed, 1), 20) {
-        return near(seed, minus(most, 1));
+        return near(seed, most.wrapping_sub(1));
     }
     below(seed, most)
-}
-
-// From all terms, or from the first few.
-fn drawn_numbers(most: u32, seed: u32) -> [u32; 8] {
-    [
-        drawn_term(most, draw(seed, 1)),
-        drawn_term(most, draw(seed, 2)),
-        drawn_term(most, draw(seed, 3)),
-        drawn_term(most, draw(seed, 4)),
-        drawn_term(most, draw(seed, 5)),
-        drawn_term(most, draw(seed, 6)),
-        drawn_term(most, draw(seed, 7)),
-        drawn_term(most, draw(seed, 8)),
-    ]
 }
 
 // One to eight terms; now and then none, or too many.
@@ -92,62 +72,53 @@ fn drawn_size(few: u32, seed: u32) -> u32 {
     few
 }
 
-// Repeated terms are frequent where they are drawn from the first few, terms without entries where W is large.
+// From all terms, or from the first few: repeated terms are frequent where they are drawn from the first few, terms without entries where W is large.
 pub fn drawn_terms(l: Sizes, seed: u32) -> Terms {
-    let few = plus(below(seed, 8), 1);
+    let few = below(seed, 8).wrapping_add(1);
     let most = if once_in(draw(seed, 1), 2) {
         l.terms
     } else {
-        least(l.terms, few)
+        l.terms.min(few)
     };
+    let numbers = draw(seed, 2);
     Terms {
-        numbers: drawn_numbers(most, draw(seed, 2)),
+        numbers: [1, 2, 3, 4, 5, 6, 7, 8].map(|i| drawn_term(most, draw(numbers, i))),
         size: drawn_size(few, draw(seed, 3)),
     }
 }
 
-pub fn conjunction(
-    archive: &[u8],
-    entries: &[u32],
-    lengths: &[u32],
-    l: Sizes,
-    seed: u32,
-    made: &mut Tally,
-) {
-    let t = drawn_terms(l, draw(seed, 2));
-    let lent = room(draw(seed, 3), plus(l.documents, l.documents));
-    let q = named(12, t, lent);
-    ask_terms(q, t, archive, entries, lengths, l, draw(seed, 1), made);
+// The terms with a ninth number behind them, so that the plain side can be asked for too many.
+pub fn nine(t: Terms) -> [u32; 9] {
+    let [a, b, c, d, e, f, g, h] = t.numbers;
+    [a, b, c, d, e, f, g, h, 0]
+}
+
+pub fn conjunction(l: Library, seed: u32, made: &mut Tally) {
+    let t = drawn_terms(l.sizes, draw(seed, 2));
+    let lent = room(draw(seed, 3), l.sizes.documents.wrapping_mul(2));
+    let q = named(Kind::Conjunction, t, lent);
+    ask_terms(q, t, l, draw(seed, 1), made);
 }
 
 // The conjunction of some terms. What is lent holds the junk at first.
-pub fn ask_terms(
-    q: Question,
-    t: Terms,
-    archive: &[u8],
-    entries: &[u32],
-    lengths: &[u32],
-    l: Sizes,
-    junk: u32,
-    made: &mut Tally,
-) {
+pub fn ask_terms(q: Question, t: Terms, l: Library, junk: u32, made: &mut Tally) {
     let mut answers = [junk; 8200];
     let mut plain = [junk; 8200];
-    let lent = q.answers;
-    let found = conjunction_into(archive, t, lent, &mut answers);
-    let numbers = t.numbers;
-    let expected = pairs::conjunction(entries, lengths, l, &numbers, t.size, lent, &mut plain);
-    compare(q, found, expected, same(&answers, &plain), made);
+    let found = conjunction_into(l.archive, t, q.answers, &mut answers);
+    let numbers = nine(t);
+    let terms = front(&numbers, t.size);
+    let expected = pairs::conjunction(l.entries, l.lengths, l.sizes, terms, q.answers, &mut plain);
+    made.compare(q, found, expected, answers == plain);
 }
 
 // As a question: the first three terms, and how many there are.
-pub fn named(kind: u32, t: Terms, lent: u32) -> Question {
-    let numbers = t.numbers;
+pub fn named(kind: Kind, t: Terms, lent: u32) -> Question {
+    let [a, b, c, ..] = t.numbers;
     Question {
         kind,
-        a: numbers[0],
-        b: numbers[1],
-        c: numbers[2],
+        a,
+        b,
+        c,
         d: t.size,
         answers: lent,
         work: 0,

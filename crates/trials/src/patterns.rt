@@ -1,108 +1,55 @@
 // Every pattern of one to eight terms among three, so every way to repeat a term: its conjunction, its weighted search and its order, beside the
 // plain side.
-use crate::differences::{Tally, count_end};
+use crate::differences::Tally;
+use crate::library::{Library, digit};
 use crate::lists::{ask_terms, named};
 use crate::random::{below, draw};
 use crate::{orders, searches};
 use paths::Terms;
-use plain::outcome::{Question, Sizes};
-use slices::{at, least, plus, up};
-
-// The patterns of a size: 3^size.
-fn patterns(size: u32) -> u32 {
-    match size {
-        1 => 3,
-        2 => 9,
-        3 => 27,
-        4 => 81,
-        5 => 243,
-        6 => 729,
-        7 => 2187,
-        _ => 6561,
-    }
-}
+use plain::outcome::{Kind, Question, Sizes};
 
 // Pattern i of a size. Its digits to base 3, the lowest first, say which of the three stands at each place.
 fn pattern(three: [u32; 3], i: u32, size: u32) -> Terms {
     Terms {
-        numbers: [
-            at(&three, i % 3),
-            at(&three, i / 3 % 3),
-            at(&three, i / 9 % 3),
-            at(&three, i / 27 % 3),
-            at(&three, i / 81 % 3),
-            at(&three, i / 243 % 3),
-            at(&three, i / 729 % 3),
-            at(&three, i / 2187 % 3),
-        ],
+        numbers: [0, 1, 2, 3, 4, 5, 6, 7].map(|place| three[digit(i, 3, place) as usize % 3]),
         size,
     }
 }
 
 // A weighted search: k and the allowance from 0 to one more than there are documents, and just the room that it takes.
-pub fn search_of(kind: u32, t: Terms, l: Sizes, seed: u32) -> Question {
-    let numbers = t.numbers;
-    let most = plus(l.documents, 2);
+pub fn search_of(kind: Kind, t: Terms, l: Sizes, seed: u32) -> Question {
+    let most = l.documents.wrapping_add(2);
     let k = below(draw(seed, 1), most);
     Question {
         kind,
-        a: numbers[0],
+        a: t.numbers[0],
         b: t.size,
         c: k,
         d: below(draw(seed, 2), most),
-        answers: up(least(k, l.documents), 1),
-        work: up(l.documents, 2),
+        answers: k.min(l.documents).wrapping_mul(2),
+        work: l.documents.wrapping_mul(4),
     }
 }
 
 // All questions of a pattern.
-fn ask_all(
-    t: Terms,
-    archive: &[u8],
-    entries: &[u32],
-    lengths: &[u32],
-    l: Sizes,
-    seed: u32,
-    made: &mut Tally,
-) {
-    let q = named(19, t, plus(l.documents, l.documents));
-    let s = search_of(20, t, l, draw(seed, 1));
-    ask_terms(q, t, archive, entries, lengths, l, draw(seed, 2), made);
-    let end = searches::ask(s, t, archive, entries, lengths, l, draw(seed, 3), made);
-    count_end(end, made);
-    orders::ask(t, archive, lengths, l, draw(seed, 4), made);
+fn ask_all(t: Terms, l: Library, seed: u32, made: &mut Tally) {
+    let q = named(
+        Kind::ConjunctionOfPatterns,
+        t,
+        l.sizes.documents.wrapping_mul(2),
+    );
+    let s = search_of(Kind::WeightedOfPatterns, t, l.sizes, draw(seed, 1));
+    ask_terms(q, t, l, draw(seed, 2), made);
+    let end = searches::ask(s, t, l, draw(seed, 3), made);
+    made.count_end(end);
+    orders::ask(t, l, draw(seed, 4), made);
 }
 
-fn ask_size(
-    size: u32,
-    three: [u32; 3],
-    archive: &[u8],
-    entries: &[u32],
-    lengths: &[u32],
-    l: Sizes,
-    made: &mut Tally,
-) {
-    let most = patterns(size);
-    let mut i = 0;
-    while i < most {
-        let t = pattern(three, i, size);
-        ask_all(t, archive, entries, lengths, l, draw(size, i), made);
-        i += 1;
-    }
-}
-
-// 9,840 patterns.
-pub fn ask_patterns(
-    three: [u32; 3],
-    archive: &[u8],
-    entries: &[u32],
-    lengths: &[u32],
-    l: Sizes,
-    made: &mut Tally,
-) {
-    let mut size = 1;
-    while size <= 8 {
-        ask_size(size, three, archive, entries, lengths, l, made);
-        size += 1;
+// 9,840 patterns: 3^size of a size.
+pub fn ask_patterns(three: [u32; 3], l: Library, made: &mut Tally) {
+    for size in 1..9 {
+        for i in 0..3u32.wrapping_pow(size) {
+            ask_all(pattern(three, i, size), l, draw(size, i), made);
+        }
     }
 }

@@ -1,16 +1,15 @@
 // Numbers drawn by mixing a seed, so that a seed goes by value: each seed has as many numbers as are asked of it.
-use slices::{minus, plus};
 
+// Products wrap at 2^32.
 fn mixed(x: u32) -> u32 {
-    let a = x as u64;
-    let b = ((a ^ (a >> 16)) % 4294967296) * 569420461 % 4294967296;
-    let c = ((b ^ (b >> 15)) % 4294967296) * 1935289751 % 4294967296;
-    ((c ^ (c >> 15)) % 4294967296) as u32
+    let a = (x ^ (x >> 16)).wrapping_mul(569420461);
+    let b = (a ^ (a >> 15)).wrapping_mul(1935289751);
+    b ^ (b >> 15)
 }
 
 // Number i of a seed, which may be the seed of others.
 pub fn draw(seed: u32, i: u32) -> u32 {
-    mixed(plus(mixed(plus(seed, 2654435769)), i))
+    mixed(mixed(seed.wrapping_add(2654435769)).wrapping_add(i))
 }
 
 // Below m; 0 where m is 0.
@@ -31,15 +30,15 @@ pub fn near(seed: u32, m: u32) -> u32 {
     match below(seed, 40) {
         0 => 0,
         1 | 2 => m,
-        3 => minus(m, 1),
-        4 => plus(m, 1),
+        3 => m.wrapping_sub(1),
+        4 => m.wrapping_add(1),
         5 => draw(seed, 1),
-        _ => below(draw(seed, 2), plus(m, 1)),
+        _ => below(draw(seed, 2), m.wrapping_add(1)),
     }
 }
 
 // Two ends of a range.
-#[derive(Clone, Copy)]
+#[derive(Clone, Copy, Debug, PartialEq, Eq)]
 pub struct Ends {
     pub first: u32,
     pub last: u32,
@@ -49,10 +48,7 @@ pub struct Ends {
 pub fn two_ends(seed: u32, m: u32) -> Ends {
     let x = near(draw(seed, 1), m);
     let y = near(draw(seed, 2), m);
-    if x <= y {
-        return Ends { first: x, last: y };
-    }
-    if once_in(draw(seed, 3), 12) {
+    if x <= y || once_in(draw(seed, 3), 12) {
         return Ends { first: x, last: y };
     }
     Ends { first: y, last: x }
@@ -64,7 +60,7 @@ pub fn room(seed: u32, least: u32) -> u32 {
         return below(seed, 6);
     }
     if once_in(draw(seed, 1), 16) {
-        return minus(least, 1);
+        return least - 1;
     }
-    plus(least, below(seed, 6))
+    least.wrapping_add(below(seed, 6))
 }

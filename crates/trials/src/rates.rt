@@ -1,16 +1,18 @@
 // The rate: drawn, exact halves and what is beside them among them, and every one of a small size.
-use crate::differences::{Tally, compare, count_half};
-use crate::numbers::answered;
+use crate::answered::answered;
+use crate::differences::Tally;
 use crate::random::{below, draw, two_ends};
-use plain::outcome::{Question, question_of};
-use slices::{minus, plus, times};
+use plain::outcome::{Kind, Question, question_of};
 
 // An odd number of the 2,000 parts of a size, or one less or more.
 fn beside_half(seed: u32) -> Question {
-    let part = plus(below(draw(seed, 1), 2147483), 1);
-    let odd = plus(times(below(draw(seed, 2), 1000), 2), 1);
-    let count = minus(plus(times(odd, part), below(draw(seed, 3), 3)), 1);
-    question_of(9, count, times(2000, part), 0)
+    let part = below(draw(seed, 1), 2147483).wrapping_add(1);
+    let odd = below(draw(seed, 2), 1000).wrapping_mul(2).wrapping_add(1);
+    let count = odd
+        .wrapping_mul(part)
+        .wrapping_add(below(draw(seed, 3), 3))
+        .wrapping_sub(1);
+    question_of(Kind::PerMille, count, part.wrapping_mul(2000), 0)
 }
 
 // Any size and a count below it, two small numbers, or one near a half.
@@ -18,12 +20,12 @@ pub fn rate(seed: u32) -> Question {
     match below(draw(seed, 1), 4) {
         0 => {
             let size = draw(seed, 2);
-            question_of(9, below(draw(seed, 3), size), size, 0)
+            question_of(Kind::PerMille, below(draw(seed, 3), size), size, 0)
         }
         1 => beside_half(draw(seed, 4)),
         _ => {
             let e = two_ends(draw(seed, 5), 300);
-            question_of(9, e.first, e.last, 0)
+            question_of(Kind::PerMille, e.first, e.last, 0)
         }
     }
 }
@@ -31,31 +33,18 @@ pub fn rate(seed: u32) -> Question {
 // One question, through the code and by going up.
 pub fn ask(q: Question, made: &mut Tally) {
     let expected = plain::rate::per_mille(q.a, q.b);
-    compare(
-        q,
-        answered(queries::per_mille(q.a, q.b)),
-        expected,
-        true,
-        made,
-    );
-    count_half(expected, plain::rate::is_half(q.a, q.b), made);
+    made.compare(q, answered(queries::per_mille(q.a, q.b)), expected, true);
+    made.count_half(expected, plain::rate::is_half(q.a, q.b));
 }
 
-// Every count up to one above a size.
-fn ask_size(size: u32, made: &mut Tally) {
-    let end = plus(size, 2);
-    let mut count = 0;
-    while count < end {
-        ask(question_of(23, count, size, 0), made);
-        count += 1;
-    }
-}
-
-// Every size up to 200.
+// Every size up to 200, with every count up to one above it.
 pub fn ask_rates(made: &mut Tally) {
-    let mut size = 0;
-    while size < 201 {
-        ask_size(size, made);
-        size += 1;
+    for size in 0..201 {
+        for count in 0..size + 2 {
+            ask(
+                question_of(Kind::PerMilleOfSmallSizes, count, size, 0),
+                made,
+            );
+        }
     }
 }

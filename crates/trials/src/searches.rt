@@ -1,193 +1,144 @@
 // Top-k questions: the greedy search and probing, over entries and over terms, and the weighted search of one to eight terms.
-use crate::differences::{Tally, compare};
-use crate::lists::drawn_terms;
+use crate::answered::{answered, ended};
+use crate::differences::Tally;
+use crate::library::{Library, front};
+use crate::lists::{drawn_terms, nine};
 use crate::random::{Ends, below, draw, near, room, two_ends};
-use moves::TopK;
 use paths::Terms;
-use plain::outcome::{DONE, Outcome, Question, SPENT, Sizes, number, outcome_of, refused};
-use plain::search;
-use slices::{both_same, least, minus, times, up};
-use top_k::Probed;
+use plain::outcome::{Found, Kind, Question, Refusal, Sizes};
 
-fn ended(found: TopK) -> Outcome {
-    match found {
-        TopK::Done { listed, openings } => outcome_of(DONE, listed, openings),
-        TopK::Spent { listed, allowance } => outcome_of(SPENT, listed, allowance),
-        TopK::Refused(x) => refused(x),
-    }
-}
-
-fn probed(found: Probed) -> Outcome {
-    match found {
-        Probed::Listed(listed) => number(listed),
-        Probed::Refused(x) => refused(x),
-    }
-}
-
-fn search(archive: &[u8], q: Question, t: Terms, answers: &mut [u32], work: &mut [u32]) -> Outcome {
-    let kind = q.kind;
-    match kind {
-        13 => ended(top_k::greedy_entries(archive, q.a, q.b, q.c, q.d, answers, work)),
-        14 => ended(top_k::greedy_terms(archive, q.a, q.b, q.c, q.d, answers, work)),
-        15 => probed(top_k::probing_entries(archive, q.a, q.b, q.c, answers, work)),
-        16 => probed(top_k::probing_terms(archive, q.a, q.b, q.c, answers, work)),
-        _ => ended(weighted::weighted(archive, t, q.c, q.d, answers, work)),
-    }
-}
-
-// Searches with the first so many numbers of either slice lent.
-fn search_into(
+// With the first so many numbers of either slice lent.
+fn search(
     archive: &[u8],
     q: Question,
     t: Terms,
     answers: &mut [u32],
     work: &mut [u32],
-) -> Outcome {
-    let from = 0;
-    let m = q.answers as usize;
-    let w = q.work as usize;
-    if answers.len() < m {
-        return refused(0);
+) -> Result<Found, Refusal> {
+    let answers = answers
+        .get_mut(..q.answers as usize)
+        .ok_or(Refusal::Unlent)?;
+    let work = work.get_mut(..q.work as usize).ok_or(Refusal::Unlent)?;
+    match q.kind {
+        Kind::GreedyOfEntries => {
+            ended(top_k::greedy_entries(archive, q.a, q.b, q.c, q.d, answers, work))
+        }
+        Kind::GreedyOfTerms => {
+            ended(top_k::greedy_terms(archive, q.a, q.b, q.c, q.d, answers, work))
+        }
+        Kind::ProbingOfEntries => {
+            answered(top_k::probing_entries(archive, q.a, q.b, q.c, answers, work))
+        }
+        Kind::ProbingOfTerms => {
+            answered(top_k::probing_terms(archive, q.a, q.b, q.c, answers, work))
+        }
+        _ => ended(weighted::weighted(archive, t, q.c, q.d, answers, work)),
     }
-    if work.len() < w {
-        return refused(0);
-    }
-    search(archive, q, t, &mut answers[from..m], &mut work[from..w])
 }
 
 // The same over the list.
 fn plain_search(
-    entries: &[u32],
-    lengths: &[u32],
-    l: Sizes,
+    l: Library,
     q: Question,
     t: Terms,
     answers: &mut [u32],
     work: &mut [u32],
-) -> Outcome {
-    if q.kind < 17 {
-        return search::search(entries, lengths, l, q, answers, work);
+) -> Result<Found, Refusal> {
+    let numbers = nine(t);
+    match q.kind {
+        Kind::GreedyOfEntries
+        | Kind::GreedyOfTerms
+        | Kind::ProbingOfEntries
+        | Kind::ProbingOfTerms => {
+            plain::search::search(l.entries, l.lengths, l.sizes, q, answers, work)
+        }
+        _ => {
+            let terms = front(&numbers, t.size);
+            plain::weighted::weighted(l.entries, l.lengths, l.sizes, terms, q, answers, work)
+        }
     }
-    let numbers = t.numbers;
-    plain::weighted::weighted(entries, lengths, l, &numbers, t.size, q, answers, work)
 }
 
 // No documents, a few, all of them, or as many as 32 bits have.
 fn drawn_k(l: Sizes, seed: u32) -> u32 {
     match below(draw(seed, 1), 6) {
-        0 => 4294967295,
+        0 => u32::MAX,
         1 => near(draw(seed, 2), l.documents),
         _ => below(draw(seed, 3), 9),
     }
 }
 
 // The ends of a range of entries or of terms; for the weighted search the first term, and how many there are.
-fn drawn_ends(kind: u32, l: Sizes, t: Terms, seed: u32) -> Ends {
-    let numbers = t.numbers;
+fn drawn_ends(kind: Kind, l: Sizes, t: Terms, seed: u32) -> Ends {
     match kind {
-        13 | 15 => two_ends(seed, l.n),
-        14 | 16 => two_ends(seed, minus(l.terms, 1)),
+        Kind::GreedyOfEntries | Kind::ProbingOfEntries => two_ends(seed, l.n),
+        Kind::GreedyOfTerms | Kind::ProbingOfTerms => two_ends(seed, l.terms.wrapping_sub(1)),
         _ => Ends {
-            first: numbers[0],
+            first: t.numbers[0],
             last: t.size,
         },
     }
 }
 
 // The numbers that are written for each document: a pair for the weighted search, else a place too.
-fn numbers_each(kind: u32) -> u32 {
-    if kind == 17 {
-        return 2;
+fn numbers_each(kind: Kind) -> u32 {
+    match kind {
+        Kind::Weighted => 2,
+        _ => 3,
     }
-    3
 }
 
-fn drawn(kind: u32, l: Sizes, t: Terms, seed: u32) -> Question {
+fn drawn(kind: Kind, l: Sizes, t: Terms, seed: u32) -> Question {
     let e = drawn_ends(kind, l, t, draw(seed, 1));
     let k = drawn_k(l, draw(seed, 2));
-    let asked = times(least(k, l.documents), numbers_each(kind));
+    let asked = k.min(l.documents).wrapping_mul(numbers_each(kind));
     Question {
         kind,
         a: e.first,
         b: e.last,
         c: k,
-        d: 4294967295,
+        d: u32::MAX,
         answers: room(draw(seed, 3), asked),
-        work: room(draw(seed, 4), up(l.documents, 2)),
+        work: room(draw(seed, 4), l.documents.wrapping_mul(4)),
     }
 }
 
+// What is lent holds the junk at first.
 pub fn ask(
     q: Question,
     t: Terms,
-    archive: &[u8],
-    entries: &[u32],
-    lengths: &[u32],
-    l: Sizes,
+    l: Library,
     junk: u32,
     made: &mut Tally,
-) -> Outcome {
+) -> Result<Found, Refusal> {
     let mut answers = [junk; 12300];
     let mut plain = [junk; 12300];
     let mut work = [junk; 16400];
     let mut plain_work = [junk; 16400];
-    let found = search_into(archive, q, t, &mut answers, &mut work);
-    let expected = plain_search(entries, lengths, l, q, t, &mut plain, &mut plain_work);
-    compare(
-        q,
-        found,
-        expected,
-        both_same(&answers, &plain, &work, &plain_work),
-        made,
-    );
+    let found = search(l.archive, q, t, &mut answers, &mut work);
+    let expected = plain_search(l, q, t, &mut plain, &mut plain_work);
+    made.compare(q, found, expected, answers == plain && work == plain_work);
     expected
 }
 
 fn with_allowance(q: Question, allowance: u32) -> Question {
-    Question {
-        kind: q.kind,
-        a: q.a,
-        b: q.b,
-        c: q.c,
-        d: allowance,
-        answers: q.answers,
-        work: q.work,
-    }
+    Question { d: allowance, ..q }
 }
 
 // The same question with the openings that it needs as the allowance, with one less, and with any fewer.
-fn ask_again(
-    q: Question,
-    t: Terms,
-    openings: u32,
-    archive: &[u8],
-    entries: &[u32],
-    lengths: &[u32],
-    l: Sizes,
-    seed: u32,
-    made: &mut Tally,
-) {
+fn ask_again(q: Question, t: Terms, openings: u32, l: Library, seed: u32, made: &mut Tally) {
     let exact = with_allowance(q, openings);
-    let less = with_allowance(q, minus(openings, 1));
+    let less = with_allowance(q, openings.wrapping_sub(1));
     let fewer = with_allowance(q, below(draw(seed, 4), openings));
-    ask(exact, t, archive, entries, lengths, l, draw(seed, 1), made);
-    ask(less, t, archive, entries, lengths, l, draw(seed, 2), made);
-    ask(fewer, t, archive, entries, lengths, l, draw(seed, 3), made);
+    let _ = ask(exact, t, l, draw(seed, 1), made);
+    let _ = ask(less, t, l, draw(seed, 2), made);
+    let _ = ask(fewer, t, l, draw(seed, 3), made);
 }
 
-pub fn ask_drawn(
-    kind: u32,
-    archive: &[u8],
-    entries: &[u32],
-    lengths: &[u32],
-    l: Sizes,
-    seed: u32,
-    made: &mut Tally,
-) {
-    let t = drawn_terms(l, draw(seed, 4));
-    let q = drawn(kind, l, t, draw(seed, 2));
-    let o = ask(q, t, archive, entries, lengths, l, draw(seed, 1), made);
-    if o.what == DONE {
-        ask_again(q, t, o.y, archive, entries, lengths, l, draw(seed, 3), made);
+pub fn ask_drawn(kind: Kind, l: Library, seed: u32, made: &mut Tally) {
+    let t = drawn_terms(l.sizes, draw(seed, 4));
+    let q = drawn(kind, l.sizes, t, draw(seed, 2));
+    if let Ok(Found::Done { openings, .. }) = ask(q, t, l, draw(seed, 1), made) {
+        ask_again(q, t, openings, l, draw(seed, 3), made);
     }
 }

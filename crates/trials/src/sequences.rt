@@ -2,162 +2,101 @@
 // each as a question with and, or, not, beside the plain side.
 use crate::booleans::{ask, named};
 use crate::differences::Tally;
+use crate::library::{Library, Numbers, digit, number_at};
 use crate::random::draw;
 use plain::marks::{AND, CLOSES, NOT, OPENS};
-use plain::outcome::Sizes;
-use slices::{at, down, minus, plus, put, up};
+use plain::outcome::Kind;
+use std::cmp::Ordering;
 
-// The families: 0 to 5 are the sequences of so many, and the others have names.
-const NESTED: u32 = 6;
-
-const NEGATED: u32 = 7;
-
-const ALONE: u32 = 8;
-
-const BETWEEN: u32 = 9;
-
-// How many questions a family has: 8^family, up to ten brackets on either side, up to 65 nots, and 65,536.
-fn questions(family: u32) -> u32 {
-    match family {
-        NESTED => 121,
-        NEGATED => 66,
-        ALONE | BETWEEN => 65536,
-        _ => up(1, plus(family, up(family, 1))),
-    }
+// The sequences of so many, and those that their names say.
+#[derive(Clone, Copy, Debug, PartialEq, Eq)]
+enum Family {
+    Letters(u32),
+    Nested,
+    Negated,
+    Alone,
+    Between,
 }
 
-// How many numbers question i of a family has.
-fn size_of(family: u32, i: u32) -> u32 {
-    match family {
-        NESTED => plus(plus(i / 11, i % 11), 1),
-        NEGATED => plus(i, 1),
-        ALONE => 1,
-        BETWEEN => 3,
-        _ => family,
+impl Family {
+    // How many questions a family has: 8^size, up to ten brackets on either side, up to 65 nots, and 65,536.
+    fn questions(self) -> u32 {
+        match self {
+            Family::Letters(size) => 8u32.wrapping_pow(size),
+            Family::Nested => 121,
+            Family::Negated => 66,
+            Family::Alone | Family::Between => 65536,
+        }
+    }
+
+    // How many numbers question i has.
+    fn size_of(self, i: u32) -> u32 {
+        match self {
+            Family::Letters(size) => size,
+            Family::Nested => i / 11 + i % 11 + 1,
+            Family::Negated => i.wrapping_add(1),
+            Family::Alone => 1,
+            Family::Between => 3,
+        }
+    }
+
+    // The number at a place of question i: of brackets those that open stand first, then a word, then those that close.
+    fn number_at(self, three: [u32; 3], i: u32, place: u32) -> u32 {
+        match self {
+            Family::Letters(_) => letter(three, digit(i, 8, place)),
+            Family::Nested => match place.cmp(&(i / 11)) {
+                Ordering::Less => OPENS,
+                Ordering::Equal => three[0],
+                Ordering::Greater => CLOSES,
+            },
+            Family::Negated if place < i => NOT,
+            Family::Negated => three[0],
+            Family::Alone => i,
+            Family::Between if place == 1 => i,
+            Family::Between => number_at(&three, place as usize),
+        }
     }
 }
 
 // A word or a mark, as a digit to base 8.
 fn letter(three: [u32; 3], digit: u32) -> u32 {
     if digit < 3 {
-        return at(&three, digit);
+        return three[digit as usize];
     }
-    plus(AND, minus(digit, 3))
-}
-
-// The brackets that open, a word, and those that close.
-fn nested(three: [u32; 3], i: u32, place: u32) -> u32 {
-    if place < i / 11 {
-        return OPENS;
-    }
-    if i / 11 < place {
-        return CLOSES;
-    }
-    at(&three, 0)
-}
-
-fn negated(three: [u32; 3], i: u32, place: u32) -> u32 {
-    if place < i {
-        return NOT;
-    }
-    at(&three, 0)
-}
-
-fn between(three: [u32; 3], i: u32, place: u32) -> u32 {
-    if place == 1 {
-        return i;
-    }
-    at(&three, place)
-}
-
-// The number at a place of question i of a family.
-fn number_at(family: u32, three: [u32; 3], i: u32, place: u32) -> u32 {
-    match family {
-        NESTED => nested(three, i, place),
-        NEGATED => negated(three, i, place),
-        ALONE => i,
-        BETWEEN => between(three, i, place),
-        _ => letter(three, down(i, plus(place, up(place, 1))) % 8),
-    }
-}
-
-fn put_question(family: u32, three: [u32; 3], i: u32, size: u32, numbers: &mut [u32]) {
-    let mut place = 0;
-    while place < size {
-        put(numbers, place, number_at(family, three, i, place));
-        place += 1;
-    }
+    AND.wrapping_add(digit - 3)
 }
 
 // Just the room that it takes is lent.
-fn ask_one(
-    family: u32,
-    three: [u32; 3],
-    i: u32,
-    archive: &[u8],
-    entries: &[u32],
-    lengths: &[u32],
-    l: Sizes,
-    made: &mut Tally,
-) {
-    let mut numbers = [0u32; 72];
-    let size = size_of(family, i);
-    put_question(family, three, i, size, &mut numbers);
-    let q = named(22, &numbers, size, l.documents);
-    ask(
-        q,
-        &numbers,
-        archive,
-        entries,
-        lengths,
-        l,
-        draw(family, i),
-        made,
+fn ask_one(family: Family, three: [u32; 3], i: u32, l: Library, made: &mut Tally) {
+    let mut numbers = Numbers::new();
+    for place in 0..family.size_of(i) {
+        let _ = numbers.try_push(family.number_at(three, i, place));
+    }
+    let q = named(
+        Kind::BooleanOfSequences,
+        numbers.as_slice(),
+        l.sizes.documents,
     );
+    ask(q, numbers.as_slice(), l, draw(family.questions(), i), made);
 }
 
-fn ask_family(
-    family: u32,
-    three: [u32; 3],
-    archive: &[u8],
-    entries: &[u32],
-    lengths: &[u32],
-    l: Sizes,
-    made: &mut Tally,
-) {
-    let most = questions(family);
-    let mut i = 0;
-    while i < most {
-        ask_one(family, three, i, archive, entries, lengths, l, made);
-        i += 1;
+fn ask_family(family: Family, three: [u32; 3], l: Library, made: &mut Tally) {
+    for i in 0..family.questions() {
+        ask_one(family, three, i, l, made);
     }
 }
 
 // Each number of 16 bits: 131,072 questions.
-pub fn ask_numbers(
-    three: [u32; 3],
-    archive: &[u8],
-    entries: &[u32],
-    lengths: &[u32],
-    l: Sizes,
-    made: &mut Tally,
-) {
-    ask_family(ALONE, three, archive, entries, lengths, l, made);
-    ask_family(BETWEEN, three, archive, entries, lengths, l, made);
+pub fn ask_numbers(three: [u32; 3], l: Library, made: &mut Tally) {
+    ask_family(Family::Alone, three, l, made);
+    ask_family(Family::Between, three, l, made);
 }
 
 // Sequences, brackets and nots: 37,636 questions.
-pub fn ask_sequences(
-    three: [u32; 3],
-    archive: &[u8],
-    entries: &[u32],
-    lengths: &[u32],
-    l: Sizes,
-    made: &mut Tally,
-) {
-    let mut family = 0;
-    while family < ALONE {
-        ask_family(family, three, archive, entries, lengths, l, made);
-        family += 1;
+pub fn ask_sequences(three: [u32; 3], l: Library, made: &mut Tally) {
+    for size in 0..6 {
+        ask_family(Family::Letters(size), three, l, made);
     }
+    ask_family(Family::Nested, three, l, made);
+    ask_family(Family::Negated, three, l, made);
 }

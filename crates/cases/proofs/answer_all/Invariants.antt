@@ -1,11 +1,6 @@
--- `answer_all`: the line begins not past the counter, which moves to its bound; the lent slice keeps its length.
-use Prim.Native.Nat.{◌-◌, ◌≤◌}
+-- `answer_all`: the lines that are left become shorter.
 use lib.ListN.{length}
-use mathlib.Core.Path.{◌≡◌}
 use Rattle.cases.proofs.answer_all.Given as goal
 
-abbrev pub invariant-loop-i : goal.invariant-loop-i
-invariant-loop-i l = (l.s.from ≤ l.i) × (length l.bytes ≡ length l.initial.bytes)
-
-abbrev pub decreases-loop-i : goal.decreases-loop-i
-decreases-loop-i l = length l.input - l.i
+abbrev pub decreases-loop-line : goal.decreases-loop-line
+decreases-loop-line l = length l.rest

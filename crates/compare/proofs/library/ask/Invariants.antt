@@ -1,9 +1,0 @@
--- `ask`: the counter moves to its bound.
-use Prim.Native.Nat.{◌-◌}
-use Rattle.compare.proofs.library.ask.Given as goal
-
-abbrev pub invariant-loop-i : goal.invariant-loop-i
-invariant-loop-i l = Unit {0}
-
-abbrev pub decreases-loop-i : goal.decreases-loop-i
-decreases-loop-i l = l.times - l.i

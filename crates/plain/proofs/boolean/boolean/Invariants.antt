@@ -1,0 +1,6 @@
+-- `boolean`: no more documents are listed than are passed.
+use Rattle.std.proofs.Common.{◌≤◌}
+use Rattle.plain.proofs.boolean.boolean.Given as goal
+
+abbrev pub invariant-loop-d : goal.invariant-loop-d
+invariant-loop-d l = l.listed ≤ l.d

@@ -1,9 +1,0 @@
--- `fill_bytes`: the lent slice keeps its length, and the counter moves to its bound.
-use Rattle.std.proofs.Common.{◌≡◌, ◌-◌, length}
-use Rattle.slices.proofs.bytes.fill_bytes.Given as goal
-
-abbrev pub invariant-loop-i : goal.invariant-loop-i
-invariant-loop-i l = length l.bytes ≡ length l.initial.bytes
-
-abbrev pub decreases-loop-i : goal.decreases-loop-i
-decreases-loop-i l = l.size - l.i

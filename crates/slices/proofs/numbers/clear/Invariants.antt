@@ -1,9 +1,0 @@
--- `clear`: the lent slice keeps its length, and the counter moves to its bound.
-use Rattle.std.proofs.Common.{◌≡◌, ◌-◌, length}
-use Rattle.slices.proofs.numbers.clear.Given as goal
-
-abbrev pub invariant-loop-i : goal.invariant-loop-i
-invariant-loop-i l = length l.xs ≡ length l.initial.xs
-
-abbrev pub decreases-loop-i : goal.decreases-loop-i
-decreases-loop-i l = l.size - l.i

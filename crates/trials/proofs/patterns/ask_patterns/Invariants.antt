@@ -1,9 +1,0 @@
--- `ask_patterns`: the counter moves to its bound.
-use Prim.Native.Nat.{◌-◌}
-use Rattle.trials.proofs.patterns.ask_patterns.Given as goal
-
-abbrev pub invariant-loop-size : goal.invariant-loop-size
-invariant-loop-size l = Unit {0}
-
-abbrev pub decreases-loop-size : goal.decreases-loop-size
-decreases-loop-size l = 9 - l.size
