@@ -41,6 +41,7 @@ pub fn put(numbers: &mut [u32], place: usize, number: u32) {
 // The digit of a number at a place, the lowest at place 0.
 pub fn digit(number: u32, base: u32, place: u32) -> u32
     requires { 0 < base }
+    ensures { result < base }
 {
     (0..place).fold(number, |rest, _| rest / base) % base
 }
