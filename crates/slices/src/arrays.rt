@@ -14,7 +14,7 @@ fn byte(x: u32, s: u32) -> u8 {
     (down(x, s) % 256) as u8
 }
 
-// 32 bits, low byte first: by division, since the code has std's `to_le_bytes` for it.
+// 32 bits, low byte first: by shifts, since the code has std's `to_le_bytes` for it.
 pub fn put_number(bytes: &mut [u8], i: usize, x: u32) {
     put_array(bytes, i, [byte(x, 0), byte(x, 8), byte(x, 16), byte(x, 24)]);
 }
