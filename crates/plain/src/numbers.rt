@@ -1,4 +1,6 @@
 // Questions for a number, by a plain count over the list.
+ghost use Rattle.std.specs.Prelude.{◌⊎◌, ◌≤◌, ◌<◌, OnErr};
+
 use crate::outcome::{Bounds, Found, Kind, Question, Refusal, Sizes};
 use slices::{at, count_at};
 
@@ -38,7 +40,9 @@ fn total(lengths: &[u32], terms: u32) -> u32 {
 }
 
 // From the start of term f to the end of term g.
-pub fn range_of_terms(lengths: &[u32], l: Sizes, f: u32, g: u32) -> Result<Bounds, Refusal> {
+pub fn range_of_terms(lengths: &[u32], l: Sizes, f: u32, g: u32) -> Result<Bounds, Refusal>
+    ensures { OnErr result ((g < f) ⊎ (l.terms ≤ g)) }
+{
     if g < f || l.terms <= g {
         return Err(Refusal::Argument);
     }

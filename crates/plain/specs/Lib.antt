@@ -1,0 +1,2 @@
+-- What the plain side promises of its refusals.
+pub mod Refused
